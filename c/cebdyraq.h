@@ -90,7 +90,7 @@ extern "C" {
 /* The version of this header. */
 #define CQ_VERSION_MAJOR 2
 #define CQ_VERSION_MINOR 2
-#define CQ_VERSION_PATCH 3
+#define CQ_VERSION_PATCH 4
 
 /* The version of the library that the program runs with, as major * 1,000,000 + minor * 1,000 + patch. */
 uint32_t cq_version(void);

@@ -206,23 +206,25 @@ static void collect_cancelled_without(void) {
     tear_down(&w);
 }
 
-/* A disposal that lacks memory. A further one is the end of it. */
+/* A disposal of an environment that only reads, which lacks memory. A further one is the end of it. */
 static uint32_t dispose_without(void) {
     uint32_t lacking = 0;
     for (long blocks = 0;; blocks++) {
         world w;
-        build(&w, FULL_WINDOW, 2);
-        OK(cq_relinquish_capabilities(&w.env, CQ_CAN_SUSPEND | CQ_CAN_POP_FRAME));
+        build(&w, RUNS, 2);
+        OK(cq_attach_environment(&w.service, &w.no_env));
+        OK(cq_meet(&w.no_env));
+        for (int i = 0; i < 2; i++) SAME(cq_get_frame_count(&w.no_env, 0, &out.answer), CQ_WAITING);
         heap_refuse_after(blocks);
-        uint32_t code = cq_dispose_environment(&w.env);
+        uint32_t code = cq_dispose_environment(&w.no_env);
         heap_refuse_after(-1);
         if (code == CQ_OK) {
             tear_down(&w);
             return lacking;
         }
         SAME(code, CQ_OUT_OF_MEMORY);
-        OK(cq_dispose_environment(&w.env));
-        SAME(cq_dispose_environment(&w.env), CQ_MISUSED);
+        OK(cq_dispose_environment(&w.no_env));
+        SAME(cq_dispose_environment(&w.no_env), CQ_MISUSED);
         tear_down(&w);
         lacking++;
     }

@@ -93,16 +93,21 @@ static void end_traces(void) {
     }
 }
 
-/* An environment that may change nothing is disposed of at once, whatever it has out. */
 static void dispose(cq_env *real, cq_env *model) {
-    OK(cq_relinquish_capabilities(real, CQ_CAN_SUSPEND | CQ_CAN_POP_FRAME));
     OK(cq_dispose_environment(real));
-    OK(model_relinquish_capabilities(model, CQ_CAN_SUSPEND | CQ_CAN_POP_FRAME));
     OK(model_dispose_environment(model));
+}
+
+/* The calls that are out take place. */
+static void poll_all(void) {
+    for (uint32_t i = 0; i < SLOTS; i++) {
+        agree("cq_poll in the end", cq_poll(&slots[i].real.thread), model_poll(&slots[i].model.thread));
+    }
 }
 
 static void dispose_all(void) {
     end_traces();
+    poll_all();
     for (uint32_t i = 0; i < SLOTS; i++) {
         if (env_of(&slots[i].model.env) == NULL) continue;
         dispose(&slots[i].real.env, &slots[i].model.env);

@@ -128,6 +128,28 @@ void give_up_all(m_thread *t, uint32_t place) {
     }
 }
 
+/* The environment leaves. All of its calls that are out were given up. */
+void leave_all(m_thread *t, uint32_t place) {
+    for (posted *call = t->calls; call != NULL; call = call->next) {
+        if (call->place == place) call->former = true;
+    }
+}
+
+/* The call that the environment itself gave up first, if its answer can be looked for: answers to calls of one that has left are thrown
+ * away before, and none of those is out. */
+static posted *first_own(m_thread *t, uint32_t place) {
+    posted *first = first_given_up(t, place);
+    while (first != NULL && first->former && throw_first(t, place)) first = first_given_up(t, place);
+    return first == NULL || first->former ? NULL : first;
+}
+
+static bool has_given_up(const m_thread *t, uint32_t place) {
+    for (posted *call = t->calls; call != NULL; call = call->next) {
+        if (call->place == place && call->given_up != 0 && !call->former) return true;
+    }
+    return false;
+}
+
 /* The answer of a call that took place, as the header says what each function writes. */
 static void write_answer(const posted *call, cq_answer *answer, cq_frame *frames, size_t room) {
     if (call->code != CQ_OK) return;
@@ -261,7 +283,7 @@ uint32_t model_cancel(cq_env *env, const cq_ticket *ticket) {
 uint32_t model_discard(cq_env *env, uint32_t thread, bool *discarded) {
     m_env *e = env_of(env);
     if (e == NULL) return CQ_MISUSED;
-    *discarded = met(e, thread) != NULL && throw_first(met(e, thread), e->place);
+    *discarded = met(e, thread) != NULL && first_own(met(e, thread), e->place) != NULL && throw_first(met(e, thread), e->place);
     return CQ_OK;
 }
 
@@ -269,9 +291,9 @@ uint32_t model_collect_cancelled(cq_env *env, uint32_t thread, cq_answer *answer
     m_env *e = env_of(env);
     if (e == NULL) return CQ_MISUSED;
     m_thread *t = met(e, thread);
-    posted *call = t == NULL ? NULL : first_given_up(t, e->place);
-    if (call == NULL) return CQ_NONE;
-    if (!call->done) return CQ_WAITING;
+    posted *call = t == NULL ? NULL : first_own(t, e->place);
+    if (t == NULL || !has_given_up(t, e->place)) return CQ_NONE;
+    if (call == NULL || !call->done) return CQ_WAITING;
     uint32_t code = call->code;
     answer->ticket = call->ticket;
     write_answer(call, answer, frames, room);

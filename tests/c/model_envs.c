@@ -9,10 +9,13 @@ enum { KEPT_EVENTS = 4096 };
 uint32_t model_attach_environment(cq_service *service, cq_env *env) {
     m_service *s = service_of(service);
     if (s == NULL || env->kind != EMPTY) return CQ_MISUSED;
-    uint32_t place = 0;
+    uint32_t place = 0, clean = 0;
     while (place < s->envs && s->taken[place]) place++;
+    while (clean < s->envs && (s->taken[clean] || s->littered[clean])) clean++;
+    if (clean < s->envs) place = clean;
     if (place == s->envs) return CQ_FULL;
     s->taken[place] = true;
+    s->littered[place] = false;
     s->handles++;
     s->happened++;
     m_env *e = calloc(1, sizeof *e);
@@ -97,6 +100,7 @@ uint32_t model_add_capabilities(cq_env *env, uint32_t capabilities) {
     if (e == NULL) return CQ_MISUSED;
     if (capabilities & ~e->service->potential) return CQ_NOT_AVAILABLE;
     e->capabilities |= capabilities;
+    e->had |= capabilities;
     return CQ_OK;
 }
 
@@ -186,14 +190,15 @@ static bool settles(m_thread *t, uint32_t place) {
 uint32_t model_dispose_environment(cq_env *env) {
     m_env *e = env_of(env);
     if (e == NULL) return CQ_MISUSED;
-    for (uint32_t i = e->capabilities ? e->service->count : 0; i-- > 0;) {
+    for (uint32_t i = e->service->count; i-- > 0;) {
         m_thread *t = e->service->threads[i];
-        if (t->met[e->place] && !settles(t, e->place)) return CQ_BUSY;
+        if (t->met[e->place] && !settles(t, e->place) && e->had) return CQ_BUSY;
     }
     for (uint32_t i = 0; i < e->service->count; i++) {
         m_thread *t = e->service->threads[i];
         if (!t->met[e->place]) continue;
-        give_up_all(t, e->place);
+        leave_all(t, e->place);
+        if (t->there && outs(t, e->place) > 0) e->service->littered[e->place] = true;
         t->words[e->place] = 0;
         t->met[e->place] = false;
     }

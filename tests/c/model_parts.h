@@ -21,6 +21,7 @@ typedef struct posted {
     int32_t max_count;
     uint64_t word;
     uint64_t given_up;    /* 0 if it was not, and otherwise how many were given up at the thread up to it */
+    bool former;          /* the environment that asked it was disposed of */
     bool done;
     uint32_t code;
     uint64_t number;
@@ -76,6 +77,7 @@ typedef struct {
     m_trace trace;
     uint32_t place;
     uint32_t capabilities;
+    uint32_t had;         /* the capabilities that it has or once had */
     uint64_t word;
     uint32_t known;       /* it has met the threads below this number */
     bool is_told[CQ_THREAD_DETACHED + 1];       /* by the kind of event */
@@ -91,6 +93,7 @@ struct m_service {
     m_thread **threads;
     uint32_t count;
     bool taken[ENVS];
+    bool littered[ENVS];  /* a call of the last environment of this number was out when that was disposed of */
     cq_event *events;
     uint64_t event_count;
     uint64_t happened;    /* threads and environments that came or went, and meetings of threads that came */
@@ -108,6 +111,7 @@ void hand_over(m_thread *thread);
 bool is_called_for(const m_thread *thread);
 uint32_t outs(const m_thread *thread, uint32_t place);
 bool throw_first(m_thread *thread, uint32_t place);
+void leave_all(m_thread *thread, uint32_t place);
 void give_up_all(m_thread *thread, uint32_t place);
 void free_call(posted *call);
 bool is_alive(const m_thread *thread);

@@ -51,6 +51,7 @@ CODES = ["codes.c", "codes_threads.c", "codes_envs.c", "codes_memory.c", "codes_
 PROGRAMS = [
     Program("two_threads", ["two_threads.c"], HEAP),
     Program("life", ["life.c"], COUNTED_HEAP),
+    Program("successor", ["successor.c"], COUNTED_HEAP),
     Program("codes", CODES, COUNTED_HEAP),
     Program("classes", CLASSES, COUNTED_HEAP + STRINGS, wait=[]),
     Program("pops", ["pops.c", "pops_unwound.c"], COUNTED_HEAP),

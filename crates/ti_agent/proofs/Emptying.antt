@@ -16,7 +16,7 @@ use Rattle.ti_handshake.specs.Desk.{CancelsAll, DeskState, is_out}
 use Rattle.ti_agent.specs.Desks.{IsCleared, IsTaken}
 use Rattle.ti_agent.specs.Emptied.{IsEmptied}
 use Rattle.ti_agent.specs.Env.{Environment, IsDesk, may_change, out_of, outstanding, place_in, place_of}
-use Rattle.ti_agent.specs.FreeDesk.{FreeState, clearing, has_left, word_asked}
+use Rattle.ti_agent.specs.FreeDesk.{FreeState, clearing, has_left, word_asked, left}
 use Rattle.ti_agent.proofs.Clearing.{cleared_word, remove_set}
 use Rattle.ti_agent.proofs.Places.{about_at, place_set}
 use Rattle.ti_agent.proofs.Whole.{after_call, seen_call, set_same}
@@ -113,7 +113,7 @@ none_posted s t p at none = empty p.view.posted (ap out_of (sym at) ∙ none)
     empty (x ∷ l) e = absurd (omega (arith, e))
 
 -- and then it leaves
-pub cleared_then : (s mid new : Environment) (t : ThreadNo) (f : FreeState) → (may_change s.state.caps ≡ true → outstanding s t ≡ 0) → IsEmptied s mid t → IsTaken mid new t f → IsCleared s new t f
+pub cleared_then : (s mid new : Environment) (t : ThreadNo) (f : FreeState) → (may_change s.state.had ≡ true → outstanding s t ≡ 0) → IsEmptied s mid t → IsTaken mid new t f → IsCleared s new t (left f)
 cleared_then s mid new t f quiet e k = record {
   before = e.before;
   there = e.there;
@@ -125,6 +125,7 @@ cleared_then s mid new t f quiet e k = record {
   mine = ap (λ (x : DeskState). x.view.mine) (sym it) ∙ e.mine;
   spent = spent ∙ e.spent;
   clean = record {
+    former = refl;
     none_out = λ u. ap (λ (x : DeskState). is_out x u) (sym it) ∙ e.cancelled.none_out u;
     no_word = λ left. ap (λ (x : DeskState). word_asked x.env x.view.mine) (sym it) ∙ e.no_word ((λ j. has_left (record { desk = it j; spent = sym spent j })) ∙ left);
   };

@@ -45,11 +45,11 @@ cancel_whole s t p q (Ok u) whole at env hold same = whole_seen s t p q p.view.p
 cancel_whole s t p q (Err e) whole at env hold same = subst (λ (z : Environment). IsWhole z) (sym (seen_same s t p q at same)) whole
 
 pub cancels : (s : Environment) (k : Ticket) (t : ℕ) (p q : DeskState) (r : Result (Unit {0}) TiError) → t ≡ place_in s.desks k.thread → slice_get s.desks t ≡ Some p → (q.cell ≡ p.cell) × (q.env ≡ p.env) → OnOk r (Holds p.view q.view [])
-    → OnOk r (q.cancelled ≡ (if is_out p k then p.cancelled ++ k ∷ [] else p.cancelled)) → OnOk r (place_in s.desks k.thread < length s.desks → Cancels s (seen_call s t q) k)
-cancels s k t p q (Ok u) is at here hold cancelled = λ _.
+    → OnOk r (q.cancelled ≡ (if is_out p k then p.cancelled ++ k ∷ [] else p.cancelled)) → OnOk r (q.former ≡ p.former) → OnOk r (place_in s.desks k.thread < length s.desks → Cancels s (seen_call s t q) k)
+cancels s k t p q (Ok u) is at here hold cancelled former = λ _.
     let there = ap (slice_get s.desks) (sym is) ∙ at in
-    record { before = p; after = q; there = there; about = about_at s.desks k.thread p there; cell = here.0; env = here.1; hold = hold; cancelled = cancelled; new_is = ap (λ (n : ℕ). seen_call s n q) is }
-cancels s k t p q (Err e) is at here hold cancelled = tt
+    record { before = p; after = q; there = there; about = about_at s.desks k.thread p there; cell = here.0; env = here.1; hold = hold; cancelled = cancelled; former = former; new_is = ap (λ (n : ℕ). seen_call s n q) is }
+cancels s k t p q (Err e) is at here hold cancelled former = tt
 
 -- an answer that is discarded
 

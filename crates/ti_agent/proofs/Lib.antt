@@ -21,3 +21,4 @@ pub mod AtHome
 pub mod Stays
 pub mod Resuming
 pub mod AllCancelled
+pub mod Former

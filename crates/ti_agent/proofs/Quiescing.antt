@@ -13,7 +13,7 @@ use Rattle.ti_handshake.specs.Call.{GoesOn, Holds, SawNews, Waits, WaitsWith}
 use Rattle.ti_handshake.specs.Desk.{DeskState, DiscardsOf, IsSame}
 use Rattle.ti_handshake.specs.declared.discarded.Discarded.{Discarded}
 use Rattle.ti_handshake.proofs.Holding.{goes_then, waits_looks}
-use Rattle.ti_agent.specs.Deadlines.{DiscardsAt}
+use Rattle.ti_agent.specs.Deadlines.{DiscardsAt, DiscardsEach}
 use Rattle.ti_agent.specs.Desks.{Retires}
 use Rattle.ti_agent.specs.Env.{Environment, place_in}
 use Rattle.ti_agent.specs.FreeDesk.{FreeState}
@@ -22,7 +22,6 @@ use Rattle.ti_agent.specs.Quiesced.{MayQuiesce, Quiesces}
 use Rattle.ti_agent.specs.Resumed.{cancelled_at, cancelled_of}
 use Rattle.ti_agent.proofs.InTime.{discards_place, seen_same}
 use Rattle.ti_agent.proofs.Places.{place_set, set_get}
-use Rattle.ti_agent.proofs.Resuming.{may_discard}
 use Rattle.ti_agent.proofs.Whole.{seen_call}
 use Rattle.ti_vmop.proofs.Each.{set_here}
 
@@ -160,7 +159,15 @@ fewer_cancelled a b t d =
 
 -- whatever came of one try
 pub tried : (a b : Environment) (t : ThreadNo) (was_there : Bool) → (place_in a.desks t < length a.desks → DiscardsAt a b t was_there) → (length a.desks ≤ place_in a.desks t → b ≡ a) → MayQuiesce a b t
-tried a b t was_there there nobody = elim (may_discard a b t was_there there nobody) [ inl d ↦ discarded a b t d.0 d.1 | inr same ↦ inl same ]
+tried a b t was_there there nobody = elim (cases_lt (place_in a.desks t) (length a.desks)) [ inl here ↦ discarded a b t was_there (there here) | inr past ↦ inl (nobody past) ]
+
+-- and of one more, after others
+pub looks_more : (a b c : Environment) (t : ThreadNo) (was_there : Bool) → DiscardsEach a b t → (place_in b.desks t < length b.desks → DiscardsAt b c t was_there) → (length b.desks ≤ place_in b.desks t → c ≡ b) → DiscardsEach a c t
+looks_more a b c t was_there before there nobody =
+    elim (cases_lt (place_in b.desks t) (length b.desks)) [
+      | inl here ↦ (suc before.0, (b, before.1, tt, (was_there, there here)))
+      | inr past ↦ subst (λ (x : Environment). DiscardsEach a x t) (sym (nobody past)) before
+    ]
 
 -- an answer was discarded only where there is a desk
 abbrev result : Option Discarded → Result (Option Discarded) TiError

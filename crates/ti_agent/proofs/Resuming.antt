@@ -27,10 +27,10 @@ use Rattle.ti_slot.specs.declared.asked.Asked.TheVariants.{Answered, Waiting}
 use Rattle.ti_handshake.specs.Call.{next_call, found}
 use Rattle.ti_handshake.specs.Desk.{DeskState}
 use Rattle.ti_agent.specs.Asks.{IsKind}
-use Rattle.ti_agent.specs.Deadlines.{DiscardsAt}
+use Rattle.ti_agent.specs.Deadlines.{DiscardsEach}
 use Rattle.ti_agent.specs.Env.{Environment, place_in, thread_refusal}
 use Rattle.ti_agent.specs.Posts.{Posts, posting_refusal}
-use Rattle.ti_agent.specs.Resumed.{MayDiscard, IsResumed, IsYetToCome, IsNotResumed, cancelled_at, cancelled_of, is_resumed, is_suspended}
+use Rattle.ti_agent.specs.Resumed.{IsResumed, IsNotResumed, has_cancelled_at, is_resumed, is_suspended}
 
 -- a resumption leaves a thread that it answers so not suspended
 resumes : (v : ThreadView) (env : EnvNo) (alive : Bool) → alive ≡ is_alive v.mode → is_resumed (answer_of v env Resume) ≡ true → (called v env Resume).suspended ≡ false
@@ -83,87 +83,23 @@ resume_kind s new thread a k =
     let same : said a ≡ answer_of v k.before.env Resume = cc in
     subst (λ (x : Answer). IsKind Resume x) (sym same) (kinds (is_alive v.mode) v.suspended)
 
--- there was a desk before an answer was discarded, if there is one after it
-pub here_before : (old mid : Environment) (thread : ThreadNo) (p : DeskState) → (length old.desks ≤ place_in old.desks thread → mid ≡ old) → slice_get mid.desks (place_in mid.desks thread) ≡ Some p → place_in old.desks thread < length old.desks
-here_before old mid thread p nobody at = elim (cases_lt (place_in old.desks thread) (length old.desks)) [
-  | inl here ↦ here
-  | inr past ↦
-      let within : place_in mid.desks thread < length mid.desks = slice_get_within mid.desks (place_in mid.desks thread) p at in
-      let back : place_in old.desks thread < length old.desks = subst (λ (x : Environment). place_in x.desks thread < length x.desks) (nobody past) within in
-      back
-]
-
--- a call that was cancelled is at a desk
-pub desk_of : (s : Environment) (thread : ThreadNo) (k : Ticket) → slice_get (cancelled_at s thread) 0 ≡ Some k → (p : DeskState) × (slice_get s.desks (place_in s.desks thread) ≡ Some p)
-desk_of s thread k first = by_desk (slice_get s.desks (place_in s.desks thread)) first
-  where
-    by_desk : (o : Option DeskState) → slice_get (cancelled_of o) 0 ≡ Some k → (p : DeskState) × (o ≡ Some p)
-    by_desk (Some p) e = (p, refl)
-    by_desk None e = absurd (never e)
-      where
-        never : None ≡ Some k → ⊥
-        never e = cc
-
-pub none_first : (l : List Ticket) → slice_get l 0 ≡ None → l ≡ []
-none_first [] e = refl
-none_first (k ∷ l) e = absurd (never e)
-  where
-    never : Some k ≡ None → ⊥
-    never e = cc
-
-pub some_first : (l : List Ticket) (k : Ticket) → slice_get l 0 ≡ Some k → l ≢ []
-some_first l k first = λ e. never (sym (ap (λ (m : List Ticket). slice_get m 0) e) ∙ first)
-  where
-    never : None ≡ Some k → ⊥
-    never e = cc
-
--- what may be said of a discard wherever it was
-pub may_discard : (old mid : Environment) (thread : ThreadNo) (was_there : Bool) → (place_in old.desks thread < length old.desks → DiscardsAt old mid thread was_there) → (length old.desks ≤ place_in old.desks thread → mid ≡ old) → MayDiscard old mid thread
-may_discard old mid thread was_there discards nobody = elim (cases_lt (place_in old.desks thread) (length old.desks)) [
-  | inl here ↦ inl (was_there, discards here)
-  | inr past ↦ inr (nobody past)
-]
-
-some_of : (o : Option Ticket) → is_some o ≡ true → (k : Ticket) × (o ≡ Some k)
-some_of (Some k) h = (k, refl)
-some_of None h = absurd (never h)
-  where
-    never : false ≡ true → ⊥
-    never e = cc
-
-none_of : (o : Option Ticket) → is_some o ≡ false → o ≡ None
-none_of None h = refl
-none_of (Some k) h = absurd (never h)
-  where
-    never : true ≡ false → ⊥
-    never e = cc
-
 -- what each result of a try comes to
 
-pub yet_to_come : (old new : Environment) (thread : ThreadNo) (was_there : Bool) (first : Option Ticket) → (place_in old.desks thread < length old.desks → DiscardsAt old new thread was_there) → (length old.desks ≤ place_in old.desks thread → new ≡ old)
-    → first ≡ slice_get (cancelled_at new thread) 0 → is_some first ≡ true → IsYetToCome old new thread
-yet_to_come old new thread was_there first discards nobody is some =
-    let k = some_of first some in
-    let at : slice_get (cancelled_at new thread) 0 ≡ Some k.0 = sym is ∙ k.1 in
-    let desk = desk_of new thread k.0 at in
-    record { was_there = was_there; discards = discards (here_before old new thread desk.0 nobody desk.1); out = some_first (cancelled_at new thread) k.0 at }
-
-pub resumed : (old mid new : Environment) (thread : ThreadNo) (was_there : Bool) (first : Option Ticket) (a : Answer) (r : Result Bool TiError) → (place_in old.desks thread < length old.desks → DiscardsAt old mid thread was_there) → (length old.desks ≤ place_in old.desks thread → mid ≡ old)
-    → first ≡ slice_get (cancelled_at mid thread) 0 → is_some first ≡ false → Posts mid new thread Resume (Answered a) → IfOk r (λ b. (b ≡ true) × (is_resumed (said a) ≡ true)) → r ≡ Ok true → IsResumed old new thread
-resumed old mid new thread was_there first a r discards nobody is none posts told ok =
+pub resumed : (old mid new : Environment) (thread : ThreadNo) (a : Answer) (r : Result Bool TiError) → DiscardsEach old mid thread → has_cancelled_at mid thread ≡ false → Posts mid new thread Resume (Answered a)
+    → IfOk r (λ b. (b ≡ true) × (is_resumed (said a) ≡ true)) → r ≡ Ok true → IsResumed old new thread
+resumed old mid new thread a r discards none posts told ok =
     let done : is_resumed (said a) ≡ true = (subst (λ (x : Result Bool TiError). IfOk x (λ b. (b ≡ true) × (is_resumed (said a) ≡ true))) ok told).1 in
     record {
-      was_there = was_there;
       mid = mid;
-      discards = discards (here_before old mid thread posts.before nobody posts.there);
-      none = none_first (cancelled_at mid thread) (sym is ∙ none_of first none);
+      discards = discards;
+      none = none;
       answer = a;
       posts = posts;
       resumed = done;
       free = not_suspended mid new thread a posts done;
     }
 
-pub not_resumed : (old mid new : Environment) (thread : ThreadNo) (a : Answer) (r : Result Bool TiError) → MayDiscard old mid thread → Posts mid new thread Resume (Answered a) → IfErr r (λ e. said a ≡ answer.Refused e) → IfErr r (λ e. IsNotResumed old new thread e)
+pub not_resumed : (old mid new : Environment) (thread : ThreadNo) (a : Answer) (r : Result Bool TiError) → DiscardsEach old mid thread → Posts mid new thread Resume (Answered a) → IfErr r (λ e. said a ≡ answer.Refused e) → IfErr r (λ e. IsNotResumed old new thread e)
 not_resumed old mid new thread a (Ok b) may posts told = tt
 not_resumed old mid new thread a (Err e) may posts told = record { mid = mid; may = may; why = inr (a, posts, told) }
 

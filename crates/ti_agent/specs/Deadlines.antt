@@ -1,5 +1,5 @@
 -- Calls with a deadline, and calls that are cancelled.
-use Rattle.std.specs.Prelude.{◌≡◌, ◌&&◌, Bool, true, false, if◌then◌else◌, [], ◌∷◌, ◌++◌, Option, Some, None, slice_get, slice_set}
+use Rattle.std.specs.Prelude.{ℕ, zero, suc, ◌≡◌, ◌<◌, ◌≤◌, ◌&&◌, Bool, true, false, if◌then◌else◌, [], ◌∷◌, ◌++◌, length, Option, Some, None, slice_get, slice_set}
 use Rattle.ti_types.specs.declared.answer.Answer.{Answer}
 use Rattle.ti_types.specs.declared.answer.Answer.TheVariants as answer
 use Rattle.ti_types.specs.declared.call.Call.{Call}
@@ -13,6 +13,7 @@ use Rattle.ti_handshake.specs.Desk.{DeskState, Discards, CancelsLate, TellsDisca
 use Rattle.ti_replay.specs.Settling.{waits}
 use Rattle.ti_agent.specs.Env.{Environment, place_in, place_of, thread_refusal, is_full}
 use Rattle.ti_agent.specs.Asks.{Went, is_for_memory, is_timed_out}
+use Rattle.ti_agent.specs.Quiesced.{FirstWaitsAt}
 
 -- the desk at the ticket's thread cancelled the call by one hold, if the ticket was out there. Nothing else changed
 pub record Cancels (old new : Environment) (ticket : Ticket) : Type 0 where
@@ -24,6 +25,7 @@ pub record Cancels (old new : Environment) (ticket : Ticket) : Type 0 where
   pub env : after.env ≡ before.env
   pub hold : Holds before.view after.view []
   pub cancelled : after.cancelled ≡ (if is_out before ticket then before.cancelled ++ ticket ∷ [] else before.cancelled)
+  pub former : after.former ≡ before.former
   pub new_is : new ≡ record { env = old.env; state = old.state; desks = slice_set old.desks (place_in old.desks ticket.thread) after }
 
 -- the desk at a thread discarded the answer to the call that was cancelled first there, if the answer was there. Nothing
@@ -36,6 +38,34 @@ pub record DiscardsAt (old new : Environment) (thread : ThreadNo) (was_there : B
   pub discards : Discards before after was_there
   pub new_is : new ≡ record { env = old.env; state = old.state; desks = slice_set old.desks (place_in old.desks thread) after }
 
+-- So many looks at a thread for the answer to the call that was cancelled first, one after another, each where this held. Nothing
+-- else changed
+abbrev pub LooksTimes : (Environment → Type 0) → ℕ → Environment → Environment → ThreadNo → Type 0
+LooksTimes Held zero old new thread = new ≡ old
+LooksTimes Held (suc n) old new thread = (mid : Environment) × LooksTimes Held n old mid thread × Held mid × ((was_there : Bool) × DiscardsAt mid new thread was_there)
+
+-- answers to calls that were cancelled at a thread were discarded, as far as they were there
+abbrev pub DiscardsEach : Environment → Environment → ThreadNo → Type 0
+DiscardsEach old new thread = (n : ℕ) × LooksTimes (λ _. Unit {0}) n old new thread
+
+-- how many of the calls that are out at a thread, and were cancelled first, are of an environment that has left
+abbrev pub former_of : Option DeskState → ℕ
+former_of (Some p) = p.former
+former_of None = 0
+
+abbrev pub former_at : Environment → ThreadNo → ℕ
+former_at s thread = former_of (slice_get s.desks (place_in s.desks thread))
+
+-- answers to calls of an environment that has left were discarded, as far as they were there
+abbrev pub DropsAt : Environment → Environment → ThreadNo → Type 0
+DropsAt old new thread = (n : ℕ) × LooksTimes (λ s. 0 < former_at s thread) n old new thread
+
+-- Answers to calls of an environment that has left were discarded. If none of these is out any more, the answer to the first call that
+-- this environment cancelled was looked for. Otherwise nothing is told, and the first has no answer
+pub data DiscardsOwn (old new : Environment) (thread : ThreadNo) (told : Bool) : Type 0 where
+  Looked : (mid : Environment) → DropsAt old mid thread → former_at mid thread ≡ 0 → (place_in mid.desks thread < length mid.desks → DiscardsAt mid new thread told) → (length mid.desks ≤ place_in mid.desks thread → (new ≡ mid) × (told ≡ false)) → DiscardsOwn old new thread told
+  Waits : DropsAt old new thread → FirstWaitsAt new thread → told ≡ false → DiscardsOwn old new thread told
+
 -- what is told of an answer that the desk at a thread discarded
 pub record TellsDiscardedAt (old new : Environment) (thread : ThreadNo) (ticket : Ticket) (answer : Answer) : Type 0 where
   pub before : DeskState
@@ -43,6 +73,13 @@ pub record TellsDiscardedAt (old new : Environment) (thread : ThreadNo) (ticket 
   pub there : slice_get old.desks (place_in old.desks thread) ≡ Some before
   pub there_then : slice_get new.desks (place_in old.desks thread) ≡ Some after
   pub tells : TellsDiscarded before after ticket answer
+
+-- what is told of the answer to a call that this environment cancelled: no call of an environment that has left was out then
+pub record TellsOwn (old new : Environment) (thread : ThreadNo) (ticket : Ticket) (answer : Answer) : Type 0 where
+  pub mid : Environment
+  pub drops : DropsAt old mid thread
+  pub none : former_at mid thread ≡ 0
+  pub tells : TellsDiscardedAt mid new thread ticket answer
 
 -- one call is spent at the thread, and its desk there cancelled the call when the time was over. Nothing else changed
 pub record CancelsLateAt (old new : Environment) (thread : ThreadNo) (c : Call) : Type 0 where

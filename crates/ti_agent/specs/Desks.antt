@@ -47,8 +47,8 @@ pub record IsTaken (old new : Environment) (t : ThreadNo) (f : FreeState) : Type
   pub gone : place_in new.desks t ≡ length new.desks
   pub new_is : new ≡ without_desk old t
 
--- The desk at a thread left, and nothing is left there of what the environment did. If it could suspend threads or pop frames, none of
--- its calls is out: each took place. To set the word to 0 was its last call. Nothing else changed, but that the number was a
+-- The desk at a thread left, and nothing is left there of what the environment did. If it could ever suspend threads or pop frames, none
+-- of its calls is out: each took place. To set the word to 0 was its last call. Nothing else changed, but that the number was a
 -- thread once
 pub record IsCleared (old new : Environment) (t : ThreadNo) (f : FreeState) : Type 0 where
   pub before : DeskState
@@ -61,7 +61,7 @@ pub record IsCleared (old new : Environment) (t : ThreadNo) (f : FreeState) : Ty
   pub mine : f.desk.view.mine ≡ before.view.mine ++ clearing (record { desk = before; spent = spent_at old.state (place_of old.desks t) })
   pub spent : f.spent ≡ spent_at old.state (place_of old.desks t) + length (clearing (record { desk = before; spent = spent_at old.state (place_of old.desks t) }))
   pub clean : IsClean f
-  pub quiet : may_change old.state.caps ≡ true → f.desk.view.posted ≡ []
+  pub quiet : may_change old.state.had ≡ true → f.desk.view.posted ≡ []
   pub gone : place_in new.desks t ≡ length new.desks
   pub new_is : new ≡ without_desk old t
 

@@ -9,7 +9,7 @@ use Rattle.ti_types.specs.declared.numbers.EnvNo.{EnvNo}
 use Rattle.ti_handshake.specs.Call.{next_call}
 use Rattle.ti_replay.specs.Legal.{calls_spent}
 use Rattle.ti_replay.specs.Fronts.{stops_by}
-use Rattle.ti_handshake.specs.Desk.{DeskState, is_out}
+use Rattle.ti_handshake.specs.Desk.{DeskState, is_out, with_cancelled}
 
 -- the desk, and how many calls are spent there
 pub record FreeState : Type 0 where
@@ -32,13 +32,18 @@ word_after env word _ = word
 abbrev pub word_asked : EnvNo → List Entry → ℕ
 word_asked env mine = fold (word_after env) 0 mine
 
+-- the desk of an environment that has left
+abbrev pub left : FreeState → FreeState
+left f = record { desk = with_cancelled f.desk f.desk.cancelled (length f.desk.cancelled); spent = f.spent }
+
 -- whether a call is left at a thread
 abbrev pub has_left : FreeState → Bool
 has_left f = nat_lt f.spent f.desk.view.subject.limits.calls
 
--- Nothing is left of what an environment did at the desk. All of its calls that are out are cancelled. The last word that was
--- set is 0, if a call is left to read it
+-- Nothing is left of what an environment did at the desk. All of its calls that are out are cancelled, and are those of an
+-- environment that has left. The last word that was set is 0, if a call is left to read it
 pub record IsClean (f : FreeState) : Type 0 where
+  pub former : f.desk.former ≡ length f.desk.cancelled
   pub none_out : (k : Ticket) → is_out f.desk k ≡ false
   pub no_word : has_left f ≡ true → word_asked f.desk.env f.desk.view.mine ≡ 0
 

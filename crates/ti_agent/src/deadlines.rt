@@ -12,7 +12,7 @@ use ti_types::{Answer, Call, ThreadNo, TiError, Ticket, TraceBuf};
 
 impl<H: Home> Env<H> {
     /// Cancels a call that was posted and not collected, by one hold (this profile). The call still takes place when the
-    /// thread reaches it: a suspension suspends, a pop pops. It is out until `discard` discards its answer.
+    /// thread reaches it: a suspension suspends, a pop pops. It is out until `discard_now` discards its answer.
     ///
     /// A ticket that is not out at this environment, or was cancelled before, is left as it is. 110 OUT_OF_MEMORY if there is
     /// no memory to note that the call was cancelled. Then nothing changes.
@@ -36,25 +36,7 @@ impl<H: Home> Env<H> {
         unreachable!()
     }
 
-    /// Looks for the answer to the call that was cancelled first at a thread, by one hold (this profile). If the answer is
-    /// there, it is discarded, and the call is no longer out.
-    ///
-    /// Returns which call it was and what came of it. `None` if there is no answer yet, if no call was cancelled there, or if
-    /// there is no such thread.
-    pub fn discard<R: Wait>(&mut self, rt: &R, thread: ThreadNo) -> Option<Discarded>
-        ensures discards { place_in self.old.env.desks thread < length self.old.env.desks → DiscardsAt self.old.env self.new.env thread (is_some result) }
-        ensures tells { IfSome result (λ r. TellsDiscardedAt self.old.env self.new.env thread r.ticket (said r.answer)) }
-        ensures nobody { length self.old.env.desks ≤ place_in self.old.env.desks thread → (self.new ≡ self.old) × (result ≡ None) }
-        ensures home { self.new.home ≡ self.old.home }
-    {
-        let place = self.place_of(thread);
-        if place.0 >= self.desk_count() {
-            return None;
-        }
-        self.discard_at(rt, thread, place)
-    }
-
-    /// The same as `discard`, at the thread at this place, where there is a desk.
+    /// Discards the answer to the call that was cancelled first at the thread at this place, where there is a desk, if the answer is there.
     fn discard_at<R: Wait>(
         &mut self,
         rt: &R,

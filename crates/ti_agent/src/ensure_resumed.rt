@@ -4,24 +4,21 @@ use crate::env::Env;
 use crate::home::Home;
 use std::alloc::Global;
 use ti_slot::Asked;
-use ti_types::{Answer, Call, ThreadNo, TiError, Ticket};
+use ti_types::{Answer, Call, ThreadNo, TiError};
 
 impl<H: Home> Env<H> {
-    /// The ticket of the call at a thread that was cancelled first, and is still out (this profile). `None` if there is none, or no
-    /// desk at a thread of this number.
-    pub fn first_cancelled_at(&self, thread: ThreadNo) -> Option<Ticket>
-        ensures { result ≡ slice_get (cancelled_at self.now.env thread) 0 }
+    /// Whether a call that the environment cancelled at a thread is still out (this profile). `false` if there is no desk at a thread of
+    /// this number.
+    pub fn has_cancelled_at(&self, thread: ThreadNo) -> bool
+        ensures { result ≡ has_cancelled_at self.now.env thread }
     {
         let at = self.place_of(thread).0 as usize;
-        if at >= self.desks.len() {
-            return None;
-        }
-        self.desks[at].first_cancelled()
+        at < self.desks.len() && self.desks[at].has_cancelled()
     }
 
     /// Takes back what the environment's suspensions did to a thread, and what those that were cancelled would still do to it (this
-    /// profile). It discards one answer there, as `discard_now` does. If no call that was cancelled at the thread is out then, it
-    /// resumes the thread.
+    /// profile). It discards the answers to calls that were cancelled there, as far as they are there. If no call that the environment
+    /// cancelled at the thread is out then, it resumes the thread.
     ///
     /// `true`: no such call is out, and the thread is not suspended, whether it was before or not. `false`: such a call is
     /// out. It may be a suspension that the thread has not reached, so the call has to be made again once the thread has
@@ -32,7 +29,7 @@ impl<H: Home> Env<H> {
     ///
     /// The error is the first of these that fits:
     ///
-    /// - 215 (this profile: `Busy`): the thread's cell is in use. An answer may have been discarded. Nothing else changed.
+    /// - 215 (this profile: `Busy`): the thread's cell is in use. Answers may have been discarded. Nothing else changed.
     /// - 99 MUST_POSSESS_CAPABILITY, 10 INVALID_THREAD, 209 (this profile), 15 THREAD_NOT_ALIVE: as for ResumeThread (JVM TI 11).
     pub fn ensure_resumed_now(&mut self, alloc: Global, thread: ThreadNo) -> Result<bool, TiError>
         ensures resumed { result ≡ Ok true → IsResumed self.old.env self.new.env thread }
@@ -40,11 +37,11 @@ impl<H: Home> Env<H> {
         ensures refused { IfErr result (λ e. IsNotResumed self.old.env self.new.env thread e) }
         ensures home { self.new.home ≡ self.old.home }
     {
-        match self.discard_now(thread) {
-            Ok(_discarded) => (),
+        match self.discard_all_now(thread) {
+            Ok(()) => (),
             Err(error) => return Err(error),
         }
-        if self.first_cancelled_at(thread).is_some() {
+        if self.has_cancelled_at(thread) {
             return Ok(false);
         }
         match self.post_now(alloc, thread, Call::Resume) {
@@ -68,9 +65,9 @@ fn resumed_in(told: Answer) -> Result<bool, TiError>
     }
 }
 
-ghost use Rattle.std.specs.Prelude.{◌≡◌, true, false, slice_get, Ok, IfOk, IfErr};
+ghost use Rattle.std.specs.Prelude.{◌≡◌, true, false, Ok, IfOk, IfErr};
 ghost use Rattle.ti_types.specs.Answer.{said};
 ghost use Rattle.ti_types.specs.declared.answer.Answer.TheVariants as answer;
 ghost use Rattle.ti_types.specs.declared.call.Call.TheVariants as call;
 ghost use Rattle.ti_agent.specs.Asks.{IsKind};
-ghost use Rattle.ti_agent.specs.Resumed.{cancelled_at, is_resumed, IsResumed, IsYetToCome, IsNotResumed};
+ghost use Rattle.ti_agent.specs.Resumed.{has_cancelled_at, is_resumed, IsResumed, IsYetToCome, IsNotResumed};

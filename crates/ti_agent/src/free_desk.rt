@@ -59,6 +59,13 @@ impl FreeDesk {
         self.desk.facts();
     }
 
+    /// Its environment leaves (`Desk::leave`).
+    pub(crate) fn leave(&mut self)
+        ensures { self.new ≡ left self.old }
+    {
+        self.desk.leave();
+    }
+
     /// Wakes whoever sleeps at its thread and may go on. It is one load if nobody sleeps.
     pub(crate) fn wake_sleepers(&self) {
         self.desk.wake_sleepers();
@@ -98,4 +105,4 @@ ghost use Rattle.ti_types.specs.declared.error.TiError.TheVariants.{IllegalArgum
 ghost use Rattle.ti_replay.specs.Legal.{is_legal};
 ghost use Rattle.ti_replay.specs.Makers.{made_by};
 ghost use Rattle.ti_handshake.specs.Cancelled.{AreCancelled};
-ghost use Rattle.ti_agent.specs.FreeDesk.{IsFree};
+ghost use Rattle.ti_agent.specs.FreeDesk.{IsFree, left};

@@ -31,14 +31,15 @@ impl<H: Home> Env<H> {
     /// none. It tries to hold the thread's cell once for each.
     ///
     /// The error is `Busy` (215) if the cell is in use. Then some may be discarded.
-    fn discard_all_now(&mut self, thread: ThreadNo) -> Result<(), TiError>
+    pub(crate) fn discard_all_now(&mut self, thread: ThreadNo) -> Result<(), TiError>
+        ensures each { DiscardsEach self.old.env self.new.env thread }
         ensures steps { MayQuiesce self.old.env self.new.env thread }
         ensures cancelled { AllCancelledAt self.old.env thread → AllCancelledAt self.new.env thread }
         ensures waits { OnOk result (FirstWaitsAt self.new.env thread) }
         ensures busy { IfErr result (λ e. e ≡ Busy) }
         ensures home { self.new.home ≡ self.old.home }
     {
-        while self.discard_now(thread)?.is_some() {}
+        while self.discard_first_now(thread)?.is_some() {}
         Ok(())
     }
 
@@ -131,34 +132,34 @@ impl<H: Home> Env<H> {
         unreachable!()
     }
 
-    /// Whether calls of the environment may suspend threads or pop their frames: whether it has `can_suspend` or `can_pop_frame`
-    /// (this profile).
+    /// Whether calls of the environment may suspend threads or pop their frames: whether it has `can_suspend` or `can_pop_frame`, or had
+    /// one of them when it posted a call that may still be out (this profile).
     pub fn may_change(&self) -> bool
-        ensures { result ≡ may_change self.now.env.state.caps }
+        ensures { result ≡ may_change self.now.env.state.had }
     {
-        self.holds(needs(Call::Suspend)) || self.holds(needs(Call::Pop))
+        let had = self.state.had();
+        had.has(needs(Call::Suspend)) || had.has(needs(Call::Pop))
     }
 
-    /// Sees to it that the environment changes nothing of a thread any more, before it leaves it (this profile): if it may suspend
-    /// threads or pop frames, none of its calls is out there then, as after `quiesce_now`. Otherwise its calls only read, and
-    /// nothing happens.
+    /// Sees to it that the environment changes nothing of a thread any more, before it leaves it (this profile). Its calls there are
+    /// cancelled, and the answers that are there are discarded, as by `quiesce_now`. If it may suspend threads or pop frames, none of its
+    /// calls is out there then. Otherwise those that are out only read.
     ///
     /// The error is one of these. The calls may be cancelled, and answers may be discarded. Nothing else changed.
     ///
     /// - 110 OUT_OF_MEMORY: there is no memory to note the calls that are cancelled.
-    /// - 215 (this profile: `Busy`): the thread's cell is in use, or a call of the environment's is out there.
+    /// - 215 (this profile: `Busy`): the thread's cell is in use, or a call of an environment that may suspend threads or pop frames is
+    ///   out there.
     pub fn settle_now(&mut self, alloc: Global, thread: ThreadNo) -> Result<(), TiError>
-        ensures quiet { OnOk result (may_change self.new.env.state.caps ≡ true → outstanding self.new.env thread ≡ 0) }
+        ensures quiet { OnOk result (may_change self.new.env.state.had ≡ true → outstanding self.new.env thread ≡ 0) }
         ensures steps { MayQuiesce self.old.env self.new.env thread }
         ensures refused { IfErr result (λ e. (e ≡ OutOfMemory) ⊎ (e ≡ Busy)) }
         ensures home { self.new.home ≡ self.old.home }
     {
-        if !self.may_change() {
-            return Ok(());
-        }
         match self.quiesce_now(alloc, thread) {
             Ok(true) => Ok(()),
-            Ok(false) => Err(TiError::Busy),
+            Ok(false) if self.may_change() => Err(TiError::Busy),
+            Ok(false) => Ok(()),
             Err(error) => Err(error),
         }
     }
@@ -195,5 +196,6 @@ ghost use Rattle.std.specs.Bool.{OnFalse};
 ghost use Rattle.ti_types.specs.declared.error.TiError.TheVariants.{OutOfMemory, Busy};
 ghost use Rattle.ti_handshake.specs.Call.{Waits};
 ghost use Rattle.ti_handshake.specs.Desk.{IsSame};
+ghost use Rattle.ti_agent.specs.Deadlines.{DiscardsEach};
 ghost use Rattle.ti_agent.specs.Env.{may_change, outstanding};
 ghost use Rattle.ti_agent.specs.Quiesced.{AllCancelledAt, FirstWaitsAt, MayQuiesce};

@@ -1,5 +1,5 @@
 -- Calls of an environment at a thread, as C makes them.
-use Rattle.std.specs.Prelude.{ℕ, ◌≡◌, ◌<◌, ◌≤◌, ◌⊎◌, if◌then◌else◌, is_some, List, [], length, Option, Some, None, Result, Ok, Err, slice_get, IfSome}
+use Rattle.std.specs.Prelude.{ℕ, ◌≡◌, ◌<◌, ◌≤◌, ◌⊎◌, if◌then◌else◌, is_some, List, [], length, Option, Some, None, Result, Ok, Err, IfSome}
 use Rattle.std.specs.Option.{option_map}
 use Rattle.ti_types.specs.Answer.{said}
 use Rattle.ti_types.specs.Refusing.{or_else}
@@ -14,10 +14,10 @@ use Rattle.ti_replay.specs.Admission.{takes_buffer}
 use Rattle.ti_slot.specs.declared.asked.Asked.{Asked as AskedOf}
 use Rattle.ti_slot.specs.declared.asked.Asked.TheVariants.{Answered, Waiting}
 use Rattle.ti_handshake.specs.declared.discarded.Discarded.{Discarded}
-use Rattle.ti_agent.specs.Deadlines.{DiscardsAt, TellsDiscardedAt}
+use Rattle.ti_agent.specs.Deadlines.{DiscardsOwn, DropsAt, TellsOwn}
 use Rattle.ti_agent.specs.Env.{place_in}
 use Rattle.ti_agent.specs.Posts.{posting_refusal, Posts, LooksFor, IsOutIfWaiting}
-use Rattle.ti_agent.specs.Resumed.{cancelled_at}
+use Rattle.ti_agent.specs.Resumed.{has_cancelled_at}
 use Rattle.ti_service.specs.Memberships.{AgentValue}
 use Rattle.ti_capi.specs.declared.values.CqAnswer.{CqAnswer}
 use Rattle.ti_capi.specs.declared.values.CqFrame.{CqFrame}
@@ -82,15 +82,15 @@ Collects k old new code a b f g = Calls (λ s n e. Collected k s n e a b f g) ((
 -- what the environment says of an answer that it discards (`ti_service`, `Agent::discard_now`)
 abbrev pub IsDiscarded : ThreadNo → AgentValue → AgentValue → Result (Option Discarded) TiError → Type 0
 IsDiscarded t old new (Ok d) =
-    (place_in old.env.desks t < length old.env.desks → DiscardsAt old.env new.env t (is_some d))
-    × IfSome d (λ r. TellsDiscardedAt old.env new.env t r.ticket (said r.answer))
+    DiscardsOwn old.env new.env t (is_some d)
+    × IfSome d (λ r. TellsOwn old.env new.env t r.ticket (said r.answer))
     × (length old.env.desks ≤ place_in old.env.desks t → (new ≡ old) × (d ≡ None)) × (new.home ≡ old.home)
-IsDiscarded t old new (Err e) = (e ≡ Busy) × (new ≡ old)
+IsDiscarded t old new (Err e) = (e ≡ Busy) × DropsAt old.env new.env t × (new.home ≡ old.home)
 
--- what is written of it. If nothing is discarded, the code says whether a call that was cancelled is out at the thread
+-- what is written of it. If nothing is told, the code says whether a call that the environment cancelled is out at the thread
 abbrev pub IsDiscardWritten : ThreadNo → AgentValue → Result (Option Discarded) TiError → ℕ → CqAnswer → CqAnswer → List CqFrame → List CqFrame → Type 0
 IsDiscardWritten t n (Ok (Some d)) code a b f g = IsWritten d.answer code (with_ticket a (ticket_written d.ticket)) b f g
-IsDiscardWritten t n (Ok None) code a b f g = (code ≡ (if is_some (slice_get (cancelled_at n.env t) 0) then waiting else none_told)) × (b ≡ a) × (g ≡ f)
+IsDiscardWritten t n (Ok None) code a b f g = (code ≡ (if has_cancelled_at n.env t then waiting else none_told)) × (b ≡ a) × (g ≡ f)
 IsDiscardWritten t n (Err e) code a b f g = (code ≡ number_of e) × (b ≡ a) × (g ≡ f)
 
 pub record CollectedCancelled (t : ThreadNo) (s n : AgentValue) (code : ℕ) (a b : CqAnswer) (f g : List CqFrame) : Type 0 where

@@ -9,7 +9,7 @@ use Rattle.ti_types.specs.declared.event.Ticket.{Ticket}
 use Rattle.ti_types.specs.declared.numbers.EnvNo.{EnvNo}
 use Rattle.ti_types.specs.declared.numbers.ThreadNo.{ThreadNo}
 use Rattle.ti_env.specs.Env.{EnvValue, with_caps}
-use Rattle.ti_agent.specs.Deadlines.{Cancels, DiscardsAt}
+use Rattle.ti_agent.specs.Deadlines.{Cancels, DiscardsOwn, DropsAt}
 use Rattle.ti_agent.specs.Env.{Environment, place_in}
 use Rattle.ti_agent.specs.HandOvers.{TellsStopper, absence_refusal}
 use Rattle.ti_roster.specs.Stages.{alive}
@@ -60,8 +60,8 @@ pub data CancelsBy (k : Ticket) (s n : AgentValue) (code : ℕ) : Type 0 where
 
 -- an answer is discarded, or not (`ti_service`, `Agent::discard_now`)
 pub data DiscardsBy (t : ThreadNo) (b0 b1 : Bool) (s n : AgentValue) (code : ℕ) : Type 0 where
-  Discarded : code ≡ 0 → n.home ≡ s.home → (place_in s.env.desks t < length s.env.desks → DiscardsAt s.env n.env t b1) → (length s.env.desks ≤ place_in s.env.desks t → (n ≡ s) × (b1 ≡ false)) → DiscardsBy t b0 b1 s n code
-  DiscardBusy : code ≡ number_of Busy → b1 ≡ b0 → n ≡ s → DiscardsBy t b0 b1 s n code
+  Discarded : code ≡ 0 → n.home ≡ s.home → DiscardsOwn s.env n.env t b1 → (length s.env.desks ≤ place_in s.env.desks t → (n ≡ s) × (b1 ≡ false)) → DiscardsBy t b0 b1 s n code
+  DiscardBusy : code ≡ number_of Busy → b1 ≡ b0 → n.home ≡ s.home → DropsAt s.env n.env t → DiscardsBy t b0 b1 s n code
 
 -- threads are met (`ti_service`, `meet_now`)
 pub data MeetsBy (s n : AgentValue) (code : ℕ) : Type 0 where

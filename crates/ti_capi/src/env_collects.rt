@@ -60,10 +60,8 @@ pub extern "C" fn cq_collect_cancelled(
             answer.ticket = ticket_out(discarded.ticket);
             write_answer(discarded.answer, answer, frames)
         }
-        Ok(None) => match agent.first_cancelled_at(ThreadNo(thread)) {
-            Some(_) => CQ_WAITING,
-            None => CQ_NONE,
-        },
+        Ok(None) if agent.has_cancelled_at(ThreadNo(thread)) => CQ_WAITING,
+        Ok(None) => CQ_NONE,
         Err(error) => error.number(),
     }
 }

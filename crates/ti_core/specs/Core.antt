@@ -48,7 +48,7 @@ abbrev pub no_thread : Limits → ThreadState
 no_thread limits = new_state limits (record { 0 = 0 })
 
 abbrev pub no_env : EnvValue
-no_env = record { caps = record { bits = 0 }; spent = []; limits = least; word = 0; known = 0 }
+no_env = record { caps = record { bits = 0 }; had = record { bits = 0 }; spent = []; limits = least; word = 0; known = 0 }
 
 abbrev pub thread_at : Limits → List ThreadState → ThreadNo → ThreadState
 thread_at limits threads t = slice_index_or threads t.0 (no_thread limits)

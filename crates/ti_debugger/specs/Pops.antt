@@ -32,7 +32,7 @@ abbrev pub can_pop : AgentValue → Bool
 can_pop a = has_all a.env.state.caps (needed_by call.Pop)
 
 abbrev with_caps_of : AgentValue → Caps → AgentValue
-with_caps_of a caps = record a { env = record a.env { state = record a.env.state { caps = caps } } }
+with_caps_of a caps = record a { env = record a.env { state = record a.env.state { caps = caps; had = caps_with a.env.state.had caps } } }
 
 -- whether it may be said that frames are popped: the service's environments can have what that needs
 abbrev pub may_say_pops : AgentValue → Bool → Bool

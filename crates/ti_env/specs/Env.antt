@@ -6,14 +6,15 @@ use Rattle.ti_types.specs.declared.limits.Limits.{Limits}
 use Rattle.ti_types.specs.declared.numbers.ThreadNo.{ThreadNo}
 use Rattle.ti_types.specs.declared.error.TiError.{TiError}
 use Rattle.ti_types.specs.declared.error.TiError.TheVariants.{Full}
-use Rattle.ti_types.specs.Caps.{no_caps}
+use Rattle.ti_types.specs.Caps.{caps_with, no_caps}
 use Rattle.ti_types.specs.Refusing.{unless}
 use Rattle.ti_types.specs.Admitting.{asking_refusal, stopping_refusal, reading_refusal}
 
--- The capabilities, the calls spent at each thread, by its place, the limits that it was made under, and its own word. The
--- numbers below `known` were threads once
+-- The capabilities, those that it has or once had, the calls spent at each thread, by its place, the limits that it was made
+-- under, and its own word. The numbers below `known` were threads once
 pub record EnvValue : Type 0 where
   pub caps : Caps
+  pub had : Caps
   pub spent : List ℕ
   pub limits : Limits
   pub word : ℕ
@@ -21,11 +22,11 @@ pub record EnvValue : Type 0 where
 
 -- of an environment that has done nothing
 abbrev pub new_env : Limits → EnvValue
-new_env limits = record { caps = no_caps; spent = replicate limits.threads 0; limits = limits; word = 0; known = 0 }
+new_env limits = record { caps = no_caps; had = no_caps; spent = replicate limits.threads 0; limits = limits; word = 0; known = 0 }
 
 -- the same, without a place for a thread
 abbrev pub env_at_no_thread : Limits → EnvValue
-env_at_no_thread limits = record { caps = no_caps; spent = []; limits = limits; word = 0; known = 0 }
+env_at_no_thread limits = record { caps = no_caps; had = no_caps; spent = []; limits = limits; word = 0; known = 0 }
 
 -- one place more, at which this much is spent
 abbrev pub with_place : EnvValue → ℕ → EnvValue
@@ -44,7 +45,7 @@ abbrev pub with_known : EnvValue → ℕ → EnvValue
 with_known s below = record s { known = max s.known below }
 
 abbrev pub with_caps : EnvValue → Caps → EnvValue
-with_caps s caps = record s { caps = caps }
+with_caps s caps = record s { caps = caps; had = caps_with s.had caps }
 
 abbrev pub with_word : EnvValue → ℕ → EnvValue
 with_word s word = record s { word = word }

@@ -32,6 +32,8 @@ use ti_types::{Call, Caps, Limits, ThreadNo, TiError, needs};
 #[derive(Drop, Debug)]
 pub struct EnvState {
     caps: Caps,
+    /// The capabilities that it has or once had.
+    had: Caps,
     /// By the place of the thread.
     spent: Chunked<u64>,
     limits: Limits,
@@ -46,7 +48,7 @@ impl Model for EnvState {
 
     ghost Value = { EnvValue };
 
-    ghost view = { λ a. record { caps = a.caps; spent = a.spent; limits = a.limits; word = a.word; known = a.known } };
+    ghost view = { λ a. record { caps = a.caps; had = a.had; spent = a.spent; limits = a.limits; word = a.word; known = a.known } };
 
     ghost invariant = { λ a. length a.spent ≤ 65536 };
 }
@@ -64,6 +66,7 @@ impl EnvState {
     {
         Ok(EnvState {
             caps: Caps::none(),
+            had: Caps::none(),
             spent: Chunked::from_vec(vec![in alloc; 0; limits.threads as usize]?),
             limits,
             word: 0,
@@ -77,6 +80,7 @@ impl EnvState {
     {
         EnvState {
             caps: Caps::none(),
+            had: Caps::none(),
             spent: Chunked::new(alloc),
             limits,
             word: 0,
@@ -158,6 +162,14 @@ impl EnvState {
         self.caps
     }
 
+    /// The capabilities that the environment has, or has relinquished (this profile). A call that it posted with one of them may
+    /// still take place.
+    pub fn had(&self) -> Caps
+        ensures { result ≡ self.now.had }
+    {
+        self.had
+    }
+
     /// Adds capabilities to those that the environment has, all of them or none (JVM TI 11, AddCapabilities). One that it
     /// has already is no error.
     ///
@@ -172,6 +184,7 @@ impl EnvState {
             return Err(TiError::NotAvailable);
         }
         self.caps = self.caps.add(caps);
+        self.had = self.had.add(self.caps);
         Ok(())
     }
 
@@ -180,6 +193,7 @@ impl EnvState {
         ensures { self.new ≡ with_caps self.old (caps_without self.old.caps caps) }
     {
         self.caps = self.caps.relinquish(caps);
+        self.had = self.had.add(self.caps);
     }
 
     /// The environment's own word, 0 until it is set (JVM TI 11, GetEnvironmentLocalStorage). Its words at threads are not

@@ -15,7 +15,7 @@ use Rattle.ti_cell.specs.declared.view.Subject.{Subject}
 use Rattle.ti_cell.specs.declared.view.View.{View}
 use Rattle.ti_cell.specs.Seats.{Sitting}
 use Rattle.ti_handshake.specs.Call.{IsTold, ticket_told}
-use Rattle.ti_handshake.specs.Cancelled.{AreCancelled}
+use Rattle.ti_handshake.specs.Cancelled.{AreCancelled, Given}
 use Rattle.ti_handshake.specs.Desk.{DeskState, IsTicketOut, is_out}
 use Rattle.ti_handshake.specs.Seated.{IsThere, place_in}
 
@@ -66,15 +66,15 @@ once_more (u ∷ ts) k once n =
 
 -- a desk, by what it has inside
 
-pub place_given : (cell : TableId) (env : EnvNo) (o : Option Sitting) (g : List Ticket) (p : DeskState) → place_in cell env o g ≡ p → p.cancelled ≡ g
+pub place_given : (cell : TableId) (env : EnvNo) (o : Option Sitting) (g : Given) (p : DeskState) → place_in cell env o g ≡ p → p.cancelled ≡ g.tickets
 place_given cell env None g p is = ap (λ (x : DeskState). x.cancelled) (sym is)
 place_given cell env (Some s) g p is = ap (λ (x : DeskState). x.cancelled) (sym is)
 
-pub given_there : (cell : TableId) (env : EnvNo) (o : Option Sitting) (g : List Ticket) (p : DeskState) → IsThere cell env o g → place_in cell env o g ≡ p → AreCancelled g p.view.posted
+pub given_there : (cell : TableId) (env : EnvNo) (o : Option Sitting) (g : Given) (p : DeskState) → IsThere cell env o g.tickets → place_in cell env o g ≡ p → AreCancelled g.tickets p.view.posted
 given_there cell env None g p k is = absurd k
-given_there cell env (Some s) g p k is = subst (λ (x : DeskState). AreCancelled g x.view.posted) is k.1
+given_there cell env (Some s) g p k is = subst (λ (x : DeskState). AreCancelled g.tickets x.view.posted) is k.1
 
-pub seat_again : (cell : TableId) (env : EnvNo) (o : Option Sitting) (g z : List Ticket) (p : DeskState) (s : Sitting) → IsThere cell env o g → place_in cell env o g ≡ p
+pub seat_again : (cell : TableId) (env : EnvNo) (o : Option Sitting) (g : Given) (z : List Ticket) (p : DeskState) (s : Sitting) → IsThere cell env o g.tickets → place_in cell env o g ≡ p
     → s.cell ≡ cell → s.view.number ≡ p.view.number → s.view.subject ≡ p.view.subject → AreCancelled z s.view.posted → IsThere cell env (Some s) z
 seat_again cell env None g z p s k is here number subject given = absurd k
 seat_again cell env (Some t) g z p s k is here number subject given =

@@ -37,6 +37,7 @@ use Rattle.ti_cell.proofs.Goes.{asked_more, asked_is, may_ask}
 use Rattle.ti_handshake.specs.Call.{WaitsWith, HoldsWith, Holds, found, IsTold, IsAnswered, next_call, ticket_told}
 use Rattle.ti_handshake.specs.Desk.{DeskState, Sits, ReplyAtPlace}
 use Rattle.ti_handshake.specs.Seated.{IsThere, place_in}
+use Rattle.ti_handshake.specs.Cancelled.{Given}
 use Rattle.ti_handshake.proofs.Holding.{held, held_with, found_held}
 
 -- p is the desk before, s its seat, h the hold, and n the slot as the hold lends it
@@ -49,11 +50,11 @@ pub record Took (p : DeskState) (env : EnvNo) (s : Sitting) (h : Holding) (n : T
   pub taken : IsTaken s.view h.slot
   pub lent : n ≡ h.slot
 
-pub took : (cell : TableId) (env : EnvNo) (o r : Option Sitting) (s : Sitting) (g : List Ticket) (p : DeskState) (h : Holding) (n : Thread)
-    → IsThere cell env o g → place_in cell env o g ≡ p → r ≡ Some s → r ≡ o → h.view ≡ holding s.view h.slot.history h.slot.uncollected → IsTaken s.view h.slot → n ≡ h.slot → Took p env s h n
+pub took : (cell : TableId) (env : EnvNo) (o r : Option Sitting) (s : Sitting) (g : Given) (p : DeskState) (h : Holding) (n : Thread)
+    → IsThere cell env o g.tickets → place_in cell env o g ≡ p → r ≡ Some s → r ≡ o → h.view ≡ holding s.view h.slot.history h.slot.uncollected → IsTaken s.view h.slot → n ≡ h.slot → Took p env s h n
 took cell env o r s g p h n there is some same holds taken lent =
     let e : o ≡ Some s = sym same ∙ some in
-    let sits : Sits cell env s = (subst (λ (x : Option Sitting). IsThere cell env x g) e there).0 in
+    let sits : Sits cell env s = (subst (λ (x : Option Sitting). IsThere cell env x g.tickets) e there).0 in
     let place : place_in cell env (Some s) g ≡ p = ap (λ (x : Option Sitting). place_in cell env x g) (sym e) ∙ is in
     record {
       view = ap (λ (x : DeskState). x.view) (sym place);
@@ -215,7 +216,7 @@ told p env s h n m w call r k is fresh store = by_case r is
 abbrev hold_of : TableId → View → Thread → Holding
 hold_of cell v t = record { cell = cell; view = holding v t.history t.uncollected; slot = t }
 
-pub took_now : (cell : TableId) (env : EnvNo) (o : Option Sitting) (s : Sitting) (g : List Ticket) (p : DeskState) (w : View) (call : Call) (a : Answer) → IsThere cell env o g → place_in cell env o g ≡ p → o ≡ Some s
+pub took_now : (cell : TableId) (env : EnvNo) (o : Option Sitting) (s : Sitting) (g : Given) (p : DeskState) (w : View) (call : Call) (a : Answer) → IsThere cell env o g.tickets → place_in cell env o g ≡ p → o ≡ Some s
     → (k : AsksAtOnce s.view w env call a) → Took p env s (hold_of cell s.view k.slot) k.slot
 took_now cell env o s g p w call a there is some k = took cell env o o s g p (hold_of cell s.view k.slot) k.slot there is some refl refl k.taken refl
 

@@ -20,7 +20,7 @@ back_one : (n : ℕ) → suc n - 1 ≡ n
 back_one n = omega arith
 
 last_is : (cell : TableId) (s : Subject) (n : ℕ) → desk_at (record { cell = cell; view = newcomer s (suc n) 0 }) ≡ new_desk cell s (record { 0 = n })
-last_is cell s n = ap (λ (k : ℕ). record { cell = cell; env = record { 0 = k }; view = newcomer s (suc n) 0; cancelled = [] }) (back_one n)
+last_is cell s n = ap (λ (k : ℕ). record { cell = cell; env = record { 0 = k }; view = newcomer s (suc n) 0; cancelled = []; former = 0 }) (back_one n)
 
 pub desks_are : (cell : TableId) (s : Subject) (n : ℕ) → map desk_at (env_seats cell s n) ≡ new_desks cell s n
 desks_are cell s zero = refl

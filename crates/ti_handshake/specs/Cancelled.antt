@@ -4,14 +4,15 @@ use Rattle.std.specs.Global.{Vec}
 use Rattle.ti_types.specs.declared.event.Ticket.{Ticket}
 use Rattle.ti_slot.specs.Tickets.{has, AreOnce}
 
--- the tickets, and for how many there is room
+-- the tickets, for how many there is room, and how many of the first are of calls of an environment that has left
 pub record Given : Type 0 where
   pub tickets : List Ticket
   pub room : ℕ
+  pub former : ℕ
 
-abbrev pub given_in : Option (Vec Ticket) → Given
-given_in None = record { tickets = []; room = 0 }
-given_in (Some v) = record { tickets = v.items; room = vec_capacity v }
+abbrev pub given_in : Option (Vec Ticket) → ℕ → Given
+given_in None former = record { tickets = []; room = 0; former = former }
+given_in (Some v) former = record { tickets = v.items; room = vec_capacity v; former = former }
 
 -- each call that was cancelled is out, and none is listed twice
 pub record AreCancelled (cancelled posted : List Ticket) : Type 0 where

@@ -1,5 +1,5 @@
 -- An environment at a thread.
-use Rattle.std.specs.Prelude.{ℤ, ◌≡◌, ◌==◌, ◌+◌, ◌<◌, ◌&&◌, Bool, true, false, not, if◌then◌else◌, is_some, List, [], ◌∷◌, ◌++◌, length, Option, Some, None, slice_get}
+use Rattle.std.specs.Prelude.{ℕ, ℤ, ◌≡◌, ◌==◌, ◌+◌, ◌-◌, ◌<◌, ◌&&◌, Bool, true, false, not, if◌then◌else◌, is_some, List, [], ◌∷◌, ◌++◌, length, Option, Some, None, slice_get}
 use Rattle.atomic_table.specs.Seated.{TableId}
 use Rattle.ti_types.specs.declared.answer.Answer.{Answer}
 use Rattle.ti_types.specs.declared.call.Call.{Call}
@@ -23,18 +23,21 @@ use Rattle.ti_slot.specs.declared.asked.Asked.{Asked as AskedOf}
 use Rattle.ti_slot.specs.declared.asked.Asked.TheVariants.{Answered, Waiting}
 use Rattle.ti_handshake.specs.Call.{HoldsWith, IsAnswered, found, next_call, next_ticket}
 
--- an environment, its cell, its seat there, and its calls there that were cancelled and are still out
+-- An environment, its cell, its seat there, and its calls there that were cancelled and are still out. So many of the first of these
+-- are of an environment of the same number that has left
 pub record DeskState : Type 0 where
   pub cell : TableId
   pub env : EnvNo
   pub view : View
   pub cancelled : List Ticket
+  pub former : ℕ
 
 -- the same place, seen later
 pub record IsSame (old new : DeskState) : Type 0 where
   pub cell : new.cell ≡ old.cell
   pub env : new.env ≡ old.env
   pub cancelled : new.cancelled ≡ old.cancelled
+  pub former : new.former ≡ old.former
 
 -- whether a call is out and was not cancelled
 abbrev pub is_out : DeskState → Ticket → Bool
@@ -52,6 +55,7 @@ pub record LooksForFirst (old new : DeskState) (first : Ticket) (rest : List Tic
   pub hold : HoldsWith old.view new.view [] (if was_there then without_ticket first old.view.posted else old.view.posted)
   pub answered_if : was_there ≡ is_some (reply_to old.view.subject.limits new.view.seen first)
   pub cancelled : new.cancelled ≡ (if was_there then rest else old.cancelled)
+  pub former : new.former ≡ (if was_there then old.former - 1 else old.former)
 
 abbrev pub DiscardsOf : List Ticket → DeskState → DeskState → Bool → Type 0
 DiscardsOf [] old new was_there = (new ≡ old) × (was_there ≡ false)
@@ -74,13 +78,14 @@ pub record TellsDiscarded (old new : DeskState) (ticket : Ticket) (answer : Answ
   pub place : ReplyAtPlace old.view.subject.limits new.view.seen ticket answer
 
 -- the desk with this list of calls that were cancelled
-abbrev pub with_cancelled : DeskState → List Ticket → DeskState
-with_cancelled p tickets = record p { cancelled = tickets }
+abbrev pub with_cancelled : DeskState → List Ticket → ℕ → DeskState
+with_cancelled p tickets former = record p { cancelled = tickets; former = former }
 
 -- all calls that were out are cancelled, behind those that were cancelled before
 pub record CancelsAll (old new : DeskState) : Type 0 where
   pub more : List Ticket
   pub behind : new.cancelled ≡ old.cancelled ++ more
+  pub former : new.former ≡ old.former
   pub none_out : (k : Ticket) → is_out new k ≡ false
 
 -- a call that was asked, and was answered
@@ -102,6 +107,7 @@ pub record CancelsLate (old new : DeskState) (call : Call) : Type 0 where
   pub env : new.env ≡ old.env
   pub left : IsLeft old new call (next_ticket old.view old.env)
   pub cancelled : new.cancelled ≡ old.cancelled ++ next_ticket old.view old.env ∷ []
+  pub former : new.former ≡ old.former
 
 -- a call with a deadline was answered in time, or cancelled
 abbrev pub IsInTime : DeskState → DeskState → Call → Option Answer → Type 0

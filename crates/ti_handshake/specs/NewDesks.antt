@@ -13,11 +13,11 @@ IsSeatAt cell s = s.cell ≡ cell
 
 -- the desk that has a seat
 abbrev pub desk_at : Sitting → DeskState
-desk_at s = record { cell = s.cell; env = record { 0 = s.view.number - 1 }; view = s.view; cancelled = [] }
+desk_at s = record { cell = s.cell; env = record { 0 = s.view.number - 1 }; view = s.view; cancelled = []; former = 0 }
 
 -- the desk of an environment that has done nothing yet
 abbrev pub new_desk : TableId → Subject → EnvNo → DeskState
-new_desk cell subject env = record { cell = cell; env = env; view = newcomer subject (suc env.0) 0; cancelled = [] }
+new_desk cell subject env = record { cell = cell; env = env; view = newcomer subject (suc env.0) 0; cancelled = []; former = 0 }
 
 -- the desks of n environments, in the order of their numbers
 abbrev pub new_desks : TableId → Subject → ℕ → List DeskState

@@ -9,6 +9,8 @@ use ti_types::{TiError, Ticket};
 pub struct Cancelled {
     /// `None` until room is made for the first.
     tickets: Option<Vec<Ticket>>,
+    /// How many of the first are of calls of an environment that has left.
+    former: usize,
 }
 
 impl Model for Cancelled {
@@ -16,15 +18,51 @@ impl Model for Cancelled {
 
     ghost Value = { Given };
 
-    ghost view = { λ c. given_in c.tickets };
+    ghost view = { λ c. given_in c.tickets c.former };
 }
 
 impl Cancelled {
     /// An empty list. It takes no memory.
     pub fn none() -> Cancelled
-        ensures { result.tickets ≡ [] }
+        ensures tickets { result.tickets ≡ [] }
+        ensures former { result.former ≡ 0 }
     {
-        Cancelled { tickets: None }
+        Cancelled {
+            tickets: None,
+            former: 0,
+        }
+    }
+
+    /// How many tickets the list has.
+    fn len(&self) -> usize
+        ensures { result ≡ length self.now.tickets }
+    {
+        match &self.tickets {
+            None => 0,
+            Some(tickets) => tickets.len(),
+        }
+    }
+
+    /// Whether the first call is one of an environment that has left.
+    pub fn is_former(&self) -> bool
+        ensures { result ≡ nat_lt 0 self.now.former }
+    {
+        self.former > 0
+    }
+
+    /// Whether the last call is not one of an environment that has left.
+    pub fn has_own(&self) -> bool
+        ensures { result ≡ nat_lt self.now.former (length self.now.tickets) }
+    {
+        self.former < self.len()
+    }
+
+    /// The environment leaves: all calls of the list are those of an environment that has left.
+    pub fn leave(&mut self)
+        ensures tickets { self.new.tickets ≡ self.old.tickets }
+        ensures former { self.new.former ≡ length self.old.tickets }
+    {
+        self.former = self.len();
     }
 
     /// Whether this call was cancelled.
@@ -51,6 +89,7 @@ impl Cancelled {
     /// memory for it.
     pub fn reserve(&mut self, alloc: Global, more: usize) -> Result<(), TiError>
         ensures tickets { self.new.tickets ≡ self.old.tickets }
+        ensures former { self.new.former ≡ self.old.former }
         ensures room { OnOk result (length self.new.tickets + more ≤ self.new.room) }
         ensures memory { IfErr result (λ e. e ≡ OutOfMemory) }
     {
@@ -67,6 +106,7 @@ impl Cancelled {
         requires { length self.old.tickets < self.old.room }
         ensures tickets { self.new.tickets ≡ self.old.tickets ++ ticket ∷ [] }
         ensures room { self.new.room ≡ self.old.room }
+        ensures former { self.new.former ≡ self.old.former }
     {
         match &mut self.tickets {
             None => unreachable!(),
@@ -77,7 +117,8 @@ impl Cancelled {
     /// Removes the ticket of the call that was cancelled first. There has to be one.
     pub fn remove_first(&mut self)
         requires { 0 < length self.old.tickets }
-        ensures { self.new.tickets ≡ drop 1 self.old.tickets }
+        ensures tickets { self.new.tickets ≡ drop 1 self.old.tickets }
+        ensures former { self.new.former ≡ self.old.former - 1 }
     {
         match &mut self.tickets {
             None => unreachable!(),
@@ -85,6 +126,7 @@ impl Cancelled {
                 let _first = tickets.remove(0);
             }
         }
+        self.former = self.former.saturating_sub(1);
     }
 }
 
@@ -95,6 +137,6 @@ fn is_same(a: Ticket, b: Ticket) -> bool
     a.no == b.no && a.env.0 == b.env.0 && a.thread.0 == b.thread.0
 }
 
-ghost use Rattle.std.specs.Prelude.{◌≡◌, ◌<◌, ◌≤◌, ◌+◌, [], ◌∷◌, ◌++◌, length, drop, slice_get, IfErr, OnOk};
+ghost use Rattle.std.specs.Prelude.{◌≡◌, ◌<◌, ◌≤◌, ◌+◌, ◌-◌, nat_lt, [], ◌∷◌, ◌++◌, length, drop, slice_get, IfErr, OnOk};
 ghost use Rattle.ti_types.specs.declared.error.TiError.TheVariants.{OutOfMemory};
 ghost use Rattle.ti_slot.specs.Tickets.{same, has};

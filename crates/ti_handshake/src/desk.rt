@@ -52,7 +52,7 @@ impl Model for Desk {
 
     ghost Value = { DeskState };
 
-    ghost view = { λ d. place_in d.cell d.env d.seat d.cancelled.tickets };
+    ghost view = { λ d. place_in d.cell d.env d.seat d.cancelled };
 
     ghost invariant = { λ d. IsThere d.cell d.env d.seat d.cancelled.tickets };
 }
@@ -66,7 +66,7 @@ impl Desk {
         ensures cell { result.cell ≡ cell }
         ensures env { result.env.0 + 1 ≡ seat.view.number }
         ensures view { result.view ≡ seat.view }
-        ensures none { result.cancelled ≡ [] }
+        ensures none { (result.cancelled ≡ []) × (result.former ≡ 0) }
     {
         seat.facts();
         let env = EnvNo(seat.number() - 1);

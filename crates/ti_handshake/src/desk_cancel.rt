@@ -24,8 +24,9 @@ impl Desk {
     /// Takes the list of calls that were cancelled out of the desk, until `put_cancelled` puts it back.
     pub(crate) fn take_cancelled(&mut self) -> Cancelled
         ensures tickets { result.tickets ≡ self.old.cancelled }
+        ensures former { result.former ≡ self.old.former }
         ensures given { AreCancelled result.tickets self.old.view.posted }
-        ensures none { self.new ≡ with_cancelled self.old [] }
+        ensures none { self.new ≡ with_cancelled self.old [] 0 }
     {
         mem::replace(&mut self.cancelled, Cancelled::none())
     }
@@ -33,9 +34,31 @@ impl Desk {
     /// Puts a list of calls that were cancelled in place of the desk's own. Each of them is out.
     pub(crate) fn put_cancelled(&mut self, cancelled: Cancelled)
         requires { AreCancelled cancelled.tickets self.old.view.posted }
-        ensures { self.new ≡ with_cancelled self.old cancelled.tickets }
+        ensures { self.new ≡ with_cancelled self.old cancelled.tickets cancelled.former }
     {
         self.cancelled = cancelled;
+    }
+
+    /// Whether the call that was cancelled first is out, and is one of an environment that has left (this profile).
+    pub fn is_former(&self) -> bool
+        ensures { result ≡ nat_lt 0 self.now.former }
+    {
+        self.cancelled.is_former()
+    }
+
+    /// Whether a call that this environment cancelled is still out (this profile).
+    pub fn has_cancelled(&self) -> bool
+        ensures { result ≡ nat_lt self.now.former (length self.now.cancelled) }
+    {
+        self.cancelled.has_own()
+    }
+
+    /// The environment leaves: those of its calls that are out are from now on calls of one that has left, and nobody is told their
+    /// answers (this profile).
+    pub fn leave(&mut self)
+        ensures { self.new ≡ with_cancelled self.old self.old.cancelled (length self.old.cancelled) }
+    {
+        self.cancelled.leave();
     }
 
     /// Cancels a posted call whose answer is not collected, in one hold. `discard` discards its answer once it is there.
@@ -48,6 +71,7 @@ impl Desk {
         ensures here { (self.new.cell ≡ self.old.cell) × (self.new.env ≡ self.old.env) }
         ensures hold { OnOk result (Holds self.old.view self.new.view []) }
         ensures cancelled { OnOk result (self.new.cancelled ≡ (if is_out self.old ticket then self.old.cancelled ++ ticket ∷ [] else self.old.cancelled)) }
+        ensures former { OnOk result (self.new.former ≡ self.old.former) }
         ensures memory { IfErr result (λ e. e ≡ OutOfMemory) }
         ensures unchanged { OnErr result (self.new ≡ self.old) }
     {
@@ -150,7 +174,8 @@ impl Desk {
 pub(crate) fn add_own_out(slot: &Slot, env: EnvNo, cancelled: &mut Cancelled)
     requires given { AreCancelled cancelled.old.tickets (tickets_of (env.0 + 1) slot.now.uncollected) }
     requires room { length (tickets_of (env.0 + 1) slot.now.uncollected) ≤ cancelled.old.room }
-    ensures { AddsAll (tickets_of (env.0 + 1) slot.now.uncollected) cancelled.old.tickets cancelled.new.tickets }
+    ensures former { cancelled.new.former ≡ cancelled.old.former }
+    ensures added { AddsAll (tickets_of (env.0 + 1) slot.now.uncollected) cancelled.old.tickets cancelled.new.tickets }
 {
     slot.tickets();
     // The number of a call is below the number of entries.
@@ -167,7 +192,7 @@ pub(crate) fn add_own_out(slot: &Slot, env: EnvNo, cancelled: &mut Cancelled)
     }
 }
 
-ghost use Rattle.std.specs.Prelude.{◌≡◌, ◌<◌, ◌≤◌, ◌+◌, ◌++◌, ◌∷◌, [], true, length, if◌then◌else◌, is_some, slice_get, IfSome, IfOk, IfErr, OnOk, OnErr, MatchResult};
+ghost use Rattle.std.specs.Prelude.{◌≡◌, ◌<◌, ◌≤◌, ◌+◌, ◌++◌, ◌∷◌, [], true, length, if◌then◌else◌, is_some, slice_get, IfSome, IfOk, IfErr, OnOk, OnErr, MatchResult, nat_lt};
 ghost use Rattle.std.specs.Option.{option_map};
 ghost use Rattle.ti_types.specs.Answer.{said};
 ghost use Rattle.ti_types.specs.declared.error.TiError.TheVariants.{OutOfMemory};

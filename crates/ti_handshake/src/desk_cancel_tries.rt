@@ -26,6 +26,7 @@ impl Desk {
         ensures here { (self.new.cell ≡ self.old.cell) × (self.new.env ≡ self.old.env) }
         ensures hold { OnOk result (Holds self.old.view self.new.view []) }
         ensures cancelled { OnOk result (self.new.cancelled ≡ (if is_out self.old ticket then self.old.cancelled ++ ticket ∷ [] else self.old.cancelled)) }
+        ensures former { OnOk result (self.new.former ≡ self.old.former) }
         ensures refused { IfErr result (λ e. (e ≡ OutOfMemory) ⊎ (e ≡ Busy)) }
         ensures unchanged { OnErr result (self.new ≡ self.old) }
     {
@@ -54,9 +55,10 @@ impl Desk {
     /// The error is 110 OUT_OF_MEMORY if there is no memory for that. Then nothing changes.
     fn take_with_room(&mut self, alloc: Global) -> Result<Cancelled, TiError>
         ensures tickets { IfOk result (λ c. c.tickets ≡ self.old.cancelled) }
+        ensures former { IfOk result (λ c. c.former ≡ self.old.former) }
         ensures given { IfOk result (λ c. AreCancelled c.tickets self.old.view.posted) }
         ensures room { IfOk result (λ c. length self.old.view.posted ≤ c.room) }
-        ensures none { OnOk result (self.new ≡ with_cancelled self.old []) }
+        ensures none { OnOk result (self.new ≡ with_cancelled self.old [] 0) }
         ensures memory { IfErr result (λ e. e ≡ OutOfMemory) }
         ensures unchanged { OnErr result (self.new ≡ self.old) }
     {
@@ -99,6 +101,7 @@ impl Desk {
         requires given { AreCancelled cancelled.old.tickets self.old.view.posted }
         requires room { length self.old.view.posted ≤ cancelled.old.room }
         ensures same { IsSame self.old self.new }
+        ensures former { cancelled.new.former ≡ cancelled.old.former }
         ensures hold { OnOk result (Holds self.old.view self.new.view []) }
         ensures added { OnOk result (AddsAll self.old.view.posted cancelled.old.tickets cancelled.new.tickets) }
         ensures busy { IfErr result (λ e. (e ≡ Busy) × (self.new ≡ self.old) × (cancelled.new ≡ cancelled.old)) }
@@ -138,6 +141,7 @@ impl Desk {
         requires given { AreCancelled cancelled.old.tickets self.old.view.posted }
         requires room { length self.old.view.posted ≤ cancelled.old.room }
         ensures same { IsSame self.old self.new }
+        ensures former { cancelled.new.former ≡ cancelled.old.former }
         ensures hold { OnOk result (Holds self.old.view self.new.view (next_call self.old.view self.old.env (SetWord 0) ∷ [])) }
         ensures added { OnOk result (AddsAll self.old.view.posted cancelled.old.tickets cancelled.new.tickets) }
         ensures busy { IfErr result (λ e. (e ≡ Busy) × (self.new ≡ self.old) × (cancelled.new ≡ cancelled.old)) }

@@ -529,7 +529,7 @@ left_own log limits e (n ∷ l) desks listed left =
     one : (d : Option FreeState) (x : Lies) (rest : List FreeState) → LiesAs x limits e n d → All (λ f. IsOwn log limits e f) rest → All (λ f. IsOwn log limits e f) (and_one d rest)
     one None x rest is all = all
     one (Some f) Unused rest is all =
-        All-cons (λ g. IsOwn log limits e g) f rest (subst (λ (g : FreeState). IsOwn log limits e g) (sym (is_same f (new_desk limits e n) is)) (record { at = (n, listed 0 n refl, refl); env = refl; limits_are = refl; clean = record { none_out = λ k. refl; no_word = λ h. refl } })) all
+        All-cons (λ g. IsOwn log limits e g) f rest (subst (λ (g : FreeState). IsOwn log limits e g) (sym (is_same f (new_desk limits e n) is)) (record { at = (n, listed 0 n refl, refl); env = refl; limits_are = refl; clean = record { former = refl; none_out = λ k. refl; no_word = λ h. refl } })) all
     one (Some f) Out rest is all = absurd (never is)
       where
         never : Some f ≡ None → ⊥

@@ -25,7 +25,7 @@ free_at d = record { desk = d; spent = 0 }
 
 -- the desk of an environment at a thread, as it was when the thread was attached
 abbrev pub new_desk : Limits → EnvNo → Newcomer → FreeState
-new_desk limits e n = record { desk = record { cell = n.cell; env = e; view = newcomer (subject_of limits n.thread) (suc e.0) 0; cancelled = [] }; spent = 0 }
+new_desk limits e n = record { desk = record { cell = n.cell; env = e; view = newcomer (subject_of limits n.thread) (suc e.0) 0; cancelled = []; former = 0 }; spent = 0 }
 
 -- A desk that an environment gave back at a thread. It is the environment's, at the thread's own cell, and nothing is left
 -- there of what the environment did

@@ -32,6 +32,8 @@ pub struct Roster {
     /// What is noted of each environment's number. `None` while no environment has it. Otherwise the environment has taken its
     /// desks at the threads below this number.
     marks: Vec<Option<u32>>,
+    /// By the number of an environment: whether calls of the last one of this number were out at a thread when it was disposed of.
+    littered: Vec<bool>,
     /// The events of threads' lives.
     pub(crate) life: Life,
     /// What was asked about stops, and who waits.
@@ -67,6 +69,7 @@ impl Roster {
             user: None,
             rows: Chunked::new(alloc),
             marks: vec![in alloc; None; limits.envs as usize]?,
+            littered: vec![in alloc; false; limits.envs as usize]?,
             life: Life::new(alloc)?,
             stops: Stops::new(alloc),
         })
@@ -180,6 +183,19 @@ impl Roster {
         Ok(threads)
     }
 
+    /// The first number that no environment has, and at which no call was out when the last environment was disposed of.
+    fn clean_place(&self) -> Option<u32>
+        ensures place { IfSome result (λ p. (p < self.now.limits.envs) × (mark_of (record { 0 = p }) self.now.items ≡ None)) }
+    {
+        for p in 0..self.limits.envs {
+            let at = p as usize;
+            if self.marks[at].is_none() && !is_set(&self.littered, at) {
+                return Some(p);
+            }
+        }
+        None
+    }
+
     /// The first number that no environment has.
     fn free_place(&self) -> Option<u32>
         ensures place { IfSome result (λ p. (p < self.now.limits.envs) × (mark_of (record { 0 = p }) self.now.items ≡ None)) }
@@ -193,8 +209,20 @@ impl Roster {
         None
     }
 
+    /// The number of the environment that comes next: a clean one, if there is one.
+    fn next_place(&self) -> Option<u32>
+        ensures place { IfSome result (λ p. (p < self.now.limits.envs) × (mark_of (record { 0 = p }) self.now.items ≡ None)) }
+        ensures none { IfNone result (AreTaken self.now) }
+    {
+        match self.clean_place() {
+            Some(place) => Some(place),
+            None => self.free_place(),
+        }
+    }
+
     /// An environment comes, and has a number that no environment has. It has taken no desk. From now on the roster is in
-    /// its service.
+    /// its service. While there is another, it is not given a number at which calls of the last environment were out when that was
+    /// disposed of, since these take room of its window.
     ///
     /// 216 `Full` (this profile) if every number is taken, or if there were 2^62 - 1 comings and goings in all. Then nothing
     /// changes. It takes no memory.
@@ -207,11 +235,12 @@ impl Roster {
         if self.len >= LAST {
             return Err(TiError::Full);
         }
-        let Some(place) = self.free_place() else {
+        let Some(place) = self.next_place() else {
             return Err(TiError::Full);
         };
         let env = EnvNo(place);
         self.marks[place as usize] = Some(0);
+        clear(&mut self.littered, place as usize);
         self.log = self.log.and(&Coming::Attached(env));
         self.len += 1;
         self.user = Some(env);
@@ -288,6 +317,7 @@ impl Roster {
         if self.rows[i].has(place) {
             return;
         }
+        set_if(&mut self.littered, place, desk.out() > 0);
         self.rows[i].put(place, desk);
         self.marks[place] = Some(0);
         self.log = self.log.and(&Coming::GaveBack(env, thread));
@@ -325,6 +355,25 @@ impl Roster {
         self.len += 1;
         self.user = None;
         Ok(())
+    }
+}
+
+/// Whether there is such a flag, and it is set.
+fn is_set(flags: &[bool], at: usize) -> bool {
+    matches!(flags.get(at), Some(true))
+}
+
+/// Sets a flag on this condition, if there is one at this index.
+fn set_if(flags: &mut [bool], at: usize, condition: bool) {
+    if let Some(one) = flags.get_mut(at) {
+        *one = *one || condition;
+    }
+}
+
+/// Clears a flag, if there is one at this index.
+fn clear(flags: &mut [bool], at: usize) {
+    if let Some(one) = flags.get_mut(at) {
+        *one = false;
     }
 }
 

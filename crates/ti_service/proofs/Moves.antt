@@ -35,10 +35,11 @@ use Rattle.ti_service.specs.Service.{Base, Member, TakesDesks, member_in}
 pub seat_view : (cell : Base) (o : Option Sitting) (s : Sitting) (m : Member) → member_in cell o ≡ m → o ≡ Some s → s.view ≡ m.view
 seat_view cell o s m e is = ap (λ (x : Option Sitting). (member_in cell x).view) (sym is) ∙ ap (λ (x : Member). x.view) e
 
-pub claim_moves : (o : Option EnvNo) (r r' : Log) (seen : List Coming) (res : Result EnvNo TiError) → o ≡ None → Claims r.items o seen → r.user ≡ o
-    → IfOk res (λ e. (e.0 < r.limits.envs) × (mark_of e r.items ≡ None)) → IfOk res (λ e. r' ≡ with_user (with_item r (Attached e)) e) → OnErr res (r' ≡ r) → Moves o r'.user r.items r'.items
-claim_moves o r r' seen (Ok e) nobody claims user free is same = (may_attach o r r' e nobody free.1 is).moves
-claim_moves o r r' seen (Err e) nobody claims user free is same = (may_stay o r r' seen claims user same).moves
+-- an environment came, or the roster is as it was
+pub may_claim : (o : Option EnvNo) (r r' : Log) (seen : List Coming) (res : Result EnvNo TiError) → o ≡ None → Claims r.items o seen → r.user ≡ o
+    → IfOk res (λ e. (e.0 < r.limits.envs) × (mark_of e r.items ≡ None)) → IfOk res (λ e. r' ≡ with_user (with_item r (Attached e)) e) → OnErr res (r' ≡ r) → MayBe o r r'
+may_claim o r r' seen (Ok e) nobody claims user free is same = may_attach o r r' e nobody free.1 is
+may_claim o r r' seen (Err e) nobody claims user free is same = may_stay o r r' seen claims user same
 
 pub come_moves : {V : Type 0} (newcomer_of : V → Newcomer) (o : Option EnvNo) (r r' : Log) (seen : List Coming) (res : Result V TiError) → Claims r.items o seen → r.user ≡ o
     → IfOk res (λ v. r' ≡ with_item r (Came (newcomer_of v))) → OnErr res (r' ≡ r) → Moves o r'.user r.items r'.items

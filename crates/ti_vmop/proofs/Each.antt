@@ -236,7 +236,7 @@ each_then threads a b c f p q = (q.0 ∙ p.0, one)
     both : (t : Bool) (x y z : DeskState) (more : List Entry) → AtDesk t x y more → AtDesk t y z [] → AtDesk t x z more
     both false x y z more h k = k ∙ h
     both true x y z more h k = record {
-      same = record { cell = k.same.cell ∙ h.same.cell; env = k.same.env ∙ h.same.env; cancelled = k.same.cancelled ∙ h.same.cancelled };
+      same = record { cell = k.same.cell ∙ h.same.cell; env = k.same.env ∙ h.same.env; cancelled = k.same.cancelled ∙ h.same.cancelled; former = k.same.former ∙ h.same.former };
       goes = goes_then x.view y.view z.view h.goes k.goes;
       mine = k.mine ∙ (append-nil y.view.mine ∙ h.mine);
       posted = k.posted ∙ h.posted;

@@ -15,7 +15,7 @@ use Rattle.ti_vmop.proofs.Each.{at_index, take_more, take_all, listed_at, there_
 
 then_added : (p d q : DeskState) (more : List Entry) → HasAdded p d [] → HasAdded d q more → HasAdded p q more
 then_added p d q more h k = record {
-  same = record { cell = k.same.cell ∙ h.same.cell; env = k.same.env ∙ h.same.env; cancelled = k.same.cancelled ∙ h.same.cancelled };
+  same = record { cell = k.same.cell ∙ h.same.cell; env = k.same.env ∙ h.same.env; cancelled = k.same.cancelled ∙ h.same.cancelled; former = k.same.former ∙ h.same.former };
   goes = goes_then p.view d.view q.view h.goes k.goes;
   mine = k.mine ∙ ap (λ (l : List Entry). l ++ more) (h.mine ∙ append-nil p.view.mine);
   posted = k.posted ∙ h.posted;
@@ -24,7 +24,7 @@ then_added p d q more h k = record {
 pub then_looked : (p d q : DeskState) (more : List Entry) → HasAdded p d more → HasLooked d q → HasAdded p q more
 then_looked p d q more h (inl same) = subst (λ (x : DeskState). HasAdded p x more) (sym same) h
 then_looked p d q more h (inr k) = record {
-  same = record { cell = k.same.cell ∙ h.same.cell; env = k.same.env ∙ h.same.env; cancelled = k.same.cancelled ∙ h.same.cancelled };
+  same = record { cell = k.same.cell ∙ h.same.cell; env = k.same.env ∙ h.same.env; cancelled = k.same.cancelled ∙ h.same.cancelled; former = k.same.former ∙ h.same.former };
   goes = goes_then p.view d.view q.view h.goes k.goes;
   mine = k.mine ∙ (append-nil d.view.mine ∙ h.mine);
   posted = k.posted ∙ h.posted;

@@ -19,7 +19,7 @@ loop-seat-preserved c =
     let desk : DeskState = c.new.result in
     let cell : desk.cell ≡ seat.cell = c.new.ensures.cell ∙ (c.in_ok-cell.ensures.cell ∙ sym mine) in
     let number : desk.env.0 ≡ seat.view.number - 1 = omega (arith, c.new.ensures.env) in
-    let is : desk ≡ desk_at seat = (λ j. record { cell = cell j; env = record { 0 = number j }; view = c.new.ensures.view j; cancelled = c.new.ensures.none j }) in
+    let is : desk ≡ desk_at seat = (λ j. record { cell = cell j; env = record { 0 = number j }; view = c.new.ensures.view j; cancelled = c.new.ensures.none.0 j; former = c.new.ensures.none.1 j }) in
     let items : c.push_reserved.new.self.items ≡ at.desks.items ++ desk_at seat ∷ [] = c.push_reserved.ensures.items ∙ ap (λ (d : DeskState). at.desks.items ++ d ∷ []) is in
     let count = ap (λ (l : List Sitting). length l) steps in
     let longer = ap (λ (l : List DeskState). length l) items ∙ length-append at.desks.items (desk_at seat ∷ []) in (

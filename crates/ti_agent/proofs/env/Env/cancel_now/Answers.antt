@@ -29,4 +29,4 @@ returns-clause-cancels g c =
     let at = desk_there s t c.index_mut.result.now within c.index_mut.ensures.value in
     let e = c.cancel_now.ensures in
     subst (λ (x : Environment). OnOk c.cancel_now.result (place_in x.desks c.args.ticket.thread < length x.desks → Cancels x (seen_call s t c.cancel_now.new.self) c.args.ticket)) (same_env c.self.view_is)
-    (cancels s c.args.ticket t c.index_mut.result.now c.cancel_now.new.self c.cancel_now.result is at e.here e.hold e.cancelled)
+    (cancels s c.args.ticket t c.index_mut.result.now c.cancel_now.new.self c.cancel_now.result is at e.here e.hold e.cancelled e.former)

@@ -1,5 +1,7 @@
-use Rattle.std.proofs.Common.{◌<◌, arith, length, rules}
+use Rattle.std.proofs.Common.{◌<◌, arith, length, rules, subst, sym}
+use Rattle.ti_agent.specs.Desks.{IsCleared}
 use Rattle.ti_agent.specs.Env.{place_in}
+use Rattle.ti_agent.specs.FreeDesk.{FreeState}
 use Rattle.ti_agent.proofs.Emptying.{cleared_then, emptied_there}
 use Rattle.ti_agent.proofs.Quiescing.{quiesced_there}
 use Rattle.ti_agent.proofs.env.Env.clear_desk_now.Given.{Over}
@@ -24,5 +26,6 @@ pub returns-clause-cleared : goal.returns-clause-cleared
 returns-clause-cleared g c = (
   c.settle_now.new.self.env,
   c.settle_now.ensures.steps,
-  cleared_then c.settle_now.new.self.env c.empty_now.new.self.env c.take_desk.new.self.env c.args.thread c.in-Some.free c.in-Ok.ensures.quiet c.in-Ok-empty_now.ensures.emptied c.in-Some.ensures.taken,
+  subst (λ (f : FreeState). IsCleared c.settle_now.new.self.env c.take_desk.new.self.env c.args.thread f) (sym c.leave.ensures)
+      (cleared_then c.settle_now.new.self.env c.empty_now.new.self.env c.take_desk.new.self.env c.args.thread c.in-Some.free c.in-Ok.ensures.quiet c.in-Ok-empty_now.ensures.emptied c.in-Some.ensures.taken),
 )

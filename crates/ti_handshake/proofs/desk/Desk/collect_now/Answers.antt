@@ -30,7 +30,7 @@ returns-in-Ok-clause-hold c =
 pub returns-in-Ok-clause-answer : goal.returns-in-Ok-clause-answer
 returns-in-Ok-clause-answer c =
     let k = taken (goal.at.returns-in-Ok-clause-answer c).After-slot-slot in
-    let none : has c.args.ticket c.args.self.now.cancelled ≡ false = ap (has c.args.ticket) (place_given c.self.inside.cell c.self.inside.env c.self.inside.seat c.self.inside.cancelled.tickets c.args.self.now c.self.view_is) ∙ (sym c.has.ensures ∙ c.if-has.false) in
+    let none : has c.args.ticket c.args.self.now.cancelled ≡ false = ap (has c.args.ticket) (place_given c.self.inside.cell c.self.inside.env c.self.inside.seat c.self.inside.cancelled c.args.self.now c.self.view_is) ∙ (sym c.has.ensures ∙ c.if-has.false) in
     collected _ _ _ _ c.slot-slot.result.now c.collect_own-said.new.slot _ _ _ _ k c.store_quietly.ensures.view c.collect_own-said.ensures.thread c.collect_own-said.ensures.answer
     ∙ ap (λ (b : Bool). if b then reply_to c.args.self.now.view.subject.limits c.store_quietly.result.view.seen c.args.ticket else None) (sym (out_posted c.args.self.now c.args.ticket none))
 
@@ -49,6 +49,6 @@ invariant_of-self c =
     let k = taken (goal.at.invariant_of-self c).After-slot-slot in
     let hold = collects _ _ _ _ c.slot-slot.result.now c.collect_own-said.new.slot _ _ _ k (own_answered i.env c.args.ticket _ _ _ c.collect_own-said.ensures.answer) c.collect_own-said.ensures.thread c.store_quietly.ensures.view c.store_quietly.ensures.legal c.store_quietly.ensures.mine in
     let none : has c.args.ticket i.cancelled.tickets ≡ false = sym c.has.ensures ∙ c.if-has.false in
-    let given = still_given i.cancelled.tickets c.args.self.now.view.posted c.args.ticket (is_some c.collect_own-said.result) (given_there i.cell i.env i.seat i.cancelled.tickets c.args.self.now c.self.invariant c.self.view_is) none in
-    seat_again i.cell i.env i.seat i.cancelled.tickets i.cancelled.tickets c.args.self.now c.store_quietly.result c.self.invariant c.self.view_is
+    let given = still_given i.cancelled.tickets c.args.self.now.view.posted c.args.ticket (is_some c.collect_own-said.result) (given_there i.cell i.env i.seat i.cancelled c.args.self.now c.self.invariant c.self.view_is) none in
+    seat_again i.cell i.env i.seat i.cancelled i.cancelled.tickets c.args.self.now c.store_quietly.result c.self.invariant c.self.view_is
     (c.store_quietly.ensures.cell ∙ c.in-Ok.ensures.cell ∙ c.deref.ensures) hold.waits.goes.number hold.waits.goes.subject (subst (λ (l : List Ticket). AreCancelled i.cancelled.tickets l) (sym hold.waits.posted) given)

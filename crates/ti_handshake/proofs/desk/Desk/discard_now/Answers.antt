@@ -16,4 +16,4 @@ put_cancelled-requires c =
     let t = c.in-Some.first in
     let first : Some t ≡ slice_get gone 0 = sym c.in-Some.is ∙ (c.first_cancelled.ensures ∙ ap (λ (l : List Ticket). slice_get l 0) (sym e.tickets)) in
     let left = c.in-Ok-Some.ensures.hold.waits.posted ∙ (ap (λ (o : Option Answer). if is_some o then without_ticket t taken else taken) c.in-Ok-Some.field-0-is ∙ ap (λ (p : DeskState). without_ticket t p.view.posted) e.none) in
-    discarded_given gone posted _ _ t true e.given first c.remove_first.ensures left
+    discarded_given gone posted _ _ t true e.given first c.remove_first.ensures.tickets left

@@ -31,8 +31,8 @@ invariant_of-self c =
     let i = c.self.inside in
     let k = taken (goal.at.invariant_of-self c).After-slot-slot in
     let hold = asks _ _ _ _ _ _ _ _ _ k c.ask-said.ensures.asked c.store_quietly.ensures.view c.store_quietly.ensures.legal c.store_quietly.ensures.mine in
-    let given = posted_given i.cancelled.tickets c.args.self.now.view.posted (ticket_told c.ask-said.result) c.store_quietly.result.view.posted (given_there i.cell i.env i.seat i.cancelled.tickets c.args.self.now c.self.invariant c.self.view_is) hold.waits.posted in
-    seat_again i.cell i.env i.seat i.cancelled.tickets i.cancelled.tickets c.args.self.now c.store_quietly.result c.self.invariant c.self.view_is
+    let given = posted_given i.cancelled.tickets c.args.self.now.view.posted (ticket_told c.ask-said.result) c.store_quietly.result.view.posted (given_there i.cell i.env i.seat i.cancelled c.args.self.now c.self.invariant c.self.view_is) hold.waits.posted in
+    seat_again i.cell i.env i.seat i.cancelled i.cancelled.tickets c.args.self.now c.store_quietly.result c.self.invariant c.self.view_is
     (c.store_quietly.ensures.cell ∙ c.in-Ok.ensures.cell ∙ c.deref.ensures) hold.waits.goes.number hold.waits.goes.subject given
 
 pub returns-in-Ok-clause-hold : goal.returns-in-Ok-clause-hold
@@ -45,7 +45,7 @@ returns-in-Ok-clause-out c =
     let k = taken (goal.at.returns-in-Ok-clause-out c).After-slot-slot in
     let hold = asks _ _ _ _ _ _ _ _ _ k c.ask-said.ensures.asked c.store_quietly.ensures.view c.store_quietly.ensures.legal c.store_quietly.ensures.mine in
     let told_here = told _ _ _ _ _ _ _ _ _ k c.ask-said.ensures.asked (ticket_fresh c.slot-slot.result.now c.self.inside.env c.tickets.ensures.known) c.store_quietly.ensures.view in
-    let now : DeskState = record { cell = c.self.inside.cell; env = c.self.inside.env; view = c.store_quietly.result.view; cancelled = c.self.inside.cancelled.tickets } in
+    let now : DeskState = record { cell = c.self.inside.cell; env = c.self.inside.env; view = c.store_quietly.result.view; cancelled = c.self.inside.cancelled.tickets; former = c.self.inside.cancelled.former } in
     ticket_out c.args.self.now.view c.store_quietly.result.view c.args.self.now.env c.args.call c.ask-said.result c.self.inside.cancelled.tickets now (given_there _ _ _ _ _ c.self.invariant c.self.view_is) hold.waits.posted told_here refl refl
 
 pub returns-in-Ok-clause-told : goal.returns-in-Ok-clause-told

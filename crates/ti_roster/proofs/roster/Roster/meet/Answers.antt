@@ -1,5 +1,6 @@
 use Rattle.std.proofs.Common.{◌≡◌, ◌+◌, ◌<◌, ℕ, List, [], ◌∷◌, ◌++◌, length, length-append, drop, false, inl, inr, Option, Some, refl, ap, sym, ◌∙◌, subst, arith}
 use Rattle.std.specs.Prelude.{slice_get, slice_set}
+use Rattle.std.proofs.lemmas.Bool.Decides.{nat_tests}
 use Rattle.ti_roster.specs.declared.row.Row.{Row}
 use Rattle.std.proofs.lemmas.Bool.{cases_lt}
 use Rattle.ti_types.specs.declared.numbers.EnvNo.{EnvNo}
@@ -94,3 +95,8 @@ returns-clause-met c =
     let after : now ≡ with_items old (meeting e log) = ap (λ (l : List Coming). record { items = l; limits = limits; user = c.self.inside.user }) items ∙ notes_it old e some in
     subst (λ (x : Log). HasMet x now c.take_desks.new.desks.items) c.self.view_is
     (subst (λ (u : Option EnvNo). HasMetOf u old now c.take_desks.new.desks.items) (sym c.in-Some.is) (left, left_own log limits e (live log) c.take_desks.new.desks.items c.self.invariant.3.listed left, after))
+
+pub take_desks-requires-clause-places : goal.take_desks-requires-clause-places
+take_desks-requires-clause-places c = λ i r at.
+    let places : length r.desks.items ≡ c.self.inside.limits.envs = (c.self.invariant.3.each i r at).places in
+    grind (arith, nat_tests, places, c.if-env-self.true)
