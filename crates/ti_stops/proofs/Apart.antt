@@ -44,17 +44,17 @@ module _ {X : Type 0} (p : X → Bool) where
   same_list xs ys h = ([], h ∙ sym (nothing_more (filter p xs)))
 
 -- whoever is the one is not the other
-not_both : (a b c : ℕ) → nat_eq b c ≡ false → nat_eq a c ≡ true → nat_eq a b ≡ false
+pub not_both : (a b c : ℕ) → nat_eq b c ≡ false → nat_eq a c ≡ true → nat_eq a b ≡ false
 not_both a b c h k = grind (arith, nat_tests)
 
-is_not : (b : Bool) → not b ≡ true → b ≡ false
+pub is_not : (b : Bool) → not b ≡ true → b ≡ false
 is_not true h = cc h
 is_not false h = refl
 
-no_mode : (e f : EnvNo) (k : StopKind) (t : Option ThreadNo) → nat_eq f.0 e.0 ≡ false → (m : Mode) → is_mode_of e m ≡ true → is_mode f k t m ≡ false
+pub no_mode : (e f : EnvNo) (k : StopKind) (t : Option ThreadNo) → nat_eq f.0 e.0 ≡ false → (m : Mode) → is_mode_of e m ≡ true → is_mode f k t m ≡ false
 no_mode e f k t h m own = let n : nat_eq m.env.0 f.0 ≡ false = not_both m.env.0 f.0 e.0 h own in grind (arith, n)
 
-no_breakpoint : (e f : EnvNo) (at : Frame) → nat_eq f.0 e.0 ≡ false → (b : Breakpoint) → is_breakpoint_of e b ≡ true → is_breakpoint f at b ≡ false
+pub no_breakpoint : (e f : EnvNo) (at : Frame) → nat_eq f.0 e.0 ≡ false → (b : Breakpoint) → is_breakpoint_of e b ≡ true → is_breakpoint f at b ≡ false
 no_breakpoint e f at h b own = let n : nat_eq b.env.0 f.0 ≡ false = not_both b.env.0 f.0 e.0 h own in grind (arith, n)
 
 with_modes : (e : EnvNo) (s : StopsNow) (l : List Mode) → filter (is_mode_of e) l ≡ filter (is_mode_of e) s.modes → record { modes = filter (is_mode_of e) l; breakpoints = filter (is_breakpoint_of e) s.breakpoints; pops = filter (is_pop_of e) s.pops } ≡ own e s
@@ -99,7 +99,7 @@ others_change_nothing s e (Some f) (NotifyFramePop t n) h =
 others_change_nothing s e (Some f) Next h = refl
 others_change_nothing s e (Some f) (LetGo t) h = refl
 
-told_at : (e f : EnvNo) (t : ThreadNo) → nat_eq f.0 e.0 ≡ false → (w : Waiting) → waits_for e w ≡ true → is_told_at f t w ≡ false
+pub told_at : (e f : EnvNo) (t : ThreadNo) → nat_eq f.0 e.0 ≡ false → (w : Waiting) → waits_for e w ≡ true → is_told_at f t w ≡ false
 told_at e f t h w own = let n : nat_eq w.env.0 f.0 ≡ false = not_both w.env.0 f.0 e.0 h own in grind (arith, n)
 
 untold : (e f : EnvNo) → nat_eq f.0 e.0 ≡ false → (w : Waiting) → waits_for e w ≡ true → is_untold f w ≡ false
@@ -114,7 +114,7 @@ tells_one e x rest xs false true w h r =
 tells_one e x rest xs true true w h r = let k : true ≡ false = h refl in cc
 
 -- another environment is told of none that waits for this one
-tells : (e f : EnvNo) → nat_eq f.0 e.0 ≡ false → (xs : List Waiting) → filter (waits_for e) (next_told f xs) ≡ filter (waits_for e) xs
+pub tells : (e f : EnvNo) → nat_eq f.0 e.0 ≡ false → (xs : List Waiting) → filter (waits_for e) (next_told f xs) ≡ filter (waits_for e) xs
 tells e f h [] = refl
 tells e f h (x ∷ xs) = tells_one e x (next_told f xs) xs (waits_for e x) (is_untold f x) refl (untold e f h x) (tells e f h xs)
 

@@ -1,3 +1,8 @@
 pub mod Telling
 pub mod Enabling
 pub mod Apart
+pub mod Filters
+pub mod DueLaws
+pub mod ShareLaws
+pub mod WaitLaws
+mod WorkedShares

@@ -4,3 +4,4 @@ pub mod Lists
 pub mod Stops
 pub mod Arrivals
 pub mod Own
+pub mod Shares

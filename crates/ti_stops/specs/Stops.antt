@@ -128,8 +128,13 @@ let_go s e t = record s { waiting = filter (λ w. not (is_told_at e t w)) s.wait
 abbrev pub with_reached : StopsNow → ThreadNo → Frame → StopsNow
 with_reached s t at = record s { waiting = s.waiting ++ waits_by (reached_by s t at) s.envs }
 
+-- whether the environment of a pop is told of it when a thread that has so many frames leaves its newest
+abbrev pub is_due : StopsNow → ThreadNo → ℕ → Pop → Bool
+is_due s t n p = is_left t n p && (hears s p.env kind.FramePop t && list_any (is_env p.env) s.envs)
+
+-- a request ends when its environment is told, and not when another one is
 abbrev pub with_left : StopsNow → ThreadNo → Frame → ℕ → StopsNow
-with_left s t at n = record s { pops = filter (λ p. not (is_left t n p)) s.pops; waiting = s.waiting ++ waits_by (left_by s t at n) s.envs }
+with_left s t at n = record s { pops = filter (λ p. not (is_due s t n p)) s.pops; waiting = s.waiting ++ waits_by (left_by s t at n) s.envs }
 
 -- what only an environment changes
 abbrev pub after_env : Option EnvNo → StopsNow → (EnvNo → StopsNow) → StopsNow

@@ -16,7 +16,7 @@ pub enum StopCall {
     /// No breakpoint at a place any more (ClearBreakpoint).
     ClearBreakpoint(Frame),
     /// The environment wants to know when the thread leaves the frame that is this many from the oldest, which is 1
-    /// (NotifyFramePop).
+    /// (NotifyFramePop). The request ends when the environment is told.
     NotifyFramePop(ThreadNo, u32),
     /// The stop that has waited longest for the environment, of those that it was not told of.
     Next,

@@ -12,4 +12,18 @@ pub fn nobody_else_lets_go()
     ensures { NobodyElseLetsGo }
 {}
 
+/// What an environment asked for, and what waits for it, depend on its own calls, on the places that threads reach, and on the
+/// frames that they leave. Others' calls change none of its replies.
+pub fn shares_are_own()
+    ensures shares { SharesAreOwn }
+    ensures answers { SharesAnswer }
+    ensures agree { StopsAgree }
+{}
+
+/// A thread that waits for an environment waits until that environment lets it go or is disposed of, or the thread is given back.
+pub fn threads_wait_until_ended()
+    ensures { WaitsUntilEnded }
+{}
+
 ghost use Rattle.ti_stops.specs.Own.{NobodyElseLetsGo, OthersChangeNothing};
+ghost use Rattle.ti_stops.specs.Shares.{SharesAnswer, SharesAreOwn, StopsAgree, WaitsUntilEnded};

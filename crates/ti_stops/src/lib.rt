@@ -8,7 +8,8 @@
 //!
 //! - What a call gives is `outcome`, and what it changes is `after` (`specs/Stops`). A call that tells no news changes nothing,
 //!   and neither does one that is refused.
-//! - No environment's call changes what another one asked for, or lets a thread go on that waits for another one.
+//! - No environment's call changes what another one asked for, or lets a thread go on that waits for another one. What an
+//!   environment is told depends on its own calls and on where threads come, and not on other environments (`specs/Shares`).
 #![tactic(auto)]
 
 mod call;
@@ -22,6 +23,8 @@ mod stops;
 pub use call::{StopCall, StopReply};
 pub use error::StopError;
 pub use kind::StopKind;
-pub use laws::{nobody_else_lets_go, others_change_nothing};
+pub use laws::{
+    nobody_else_lets_go, others_change_nothing, shares_are_own, threads_wait_until_ended,
+};
 pub use stop::Stop;
 pub use stops::Stops;

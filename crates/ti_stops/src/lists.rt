@@ -186,6 +186,21 @@ pub(crate) fn hears(modes: &[Mode], env: EnvNo, kind: StopKind, thread: ThreadNo
     modes.iter().any(|mode| mode.is_heard(env, kind, thread))
 }
 
+/// Whether the environment of a pop is told of it when a thread leaves its newest frame of so many.
+pub(crate) fn is_due(
+    modes: &[Mode],
+    envs: &[EnvNo],
+    thread: ThreadNo,
+    frames: u32,
+    pop: &Pop,
+) -> bool
+    ensures { result ≡ (is_left thread frames pop.now && (list_any (is_heard pop.now.env FramePop thread) modes.now && list_any (is_env pop.now.env) envs.now)) }
+{
+    pop.is_left(thread, frames)
+        && hears(modes, pop.env, StopKind::FramePop, thread)
+        && has_env(envs, pop.env)
+}
+
 /// Whether an environment has a breakpoint at a place.
 pub(crate) fn has_breakpoint(breakpoints: &[Breakpoint], env: EnvNo, at: Frame) -> bool
     ensures { result ≡ list_any (is_breakpoint env at) breakpoints.now }
@@ -324,7 +339,8 @@ pub(crate) fn add_stops(
     }
 }
 
-ghost use Rattle.std.specs.Prelude.{◌≡◌, ◌≤◌, ◌+◌, ◌++◌, not, length, filter, vec_len, vec_capacity, IfErr, IfNone, OnErr, OnOk};
+ghost use Rattle.ti_stops.specs.declared.kind.StopKind.TheVariants.{FramePop};
+ghost use Rattle.std.specs.Prelude.{◌&&◌, ◌≡◌, ◌≤◌, ◌+◌, ◌++◌, not, length, filter, vec_len, vec_capacity, IfErr, IfNone, OnErr, OnOk};
 ghost use Rattle.ti_stops.specs.declared.error.StopError.TheVariants.{OutOfMemory};
 ghost use Rattle.std.specs.List.{list_any};
 ghost use Rattle.ti_stops.specs.Arrivals.{asked, stop_by};

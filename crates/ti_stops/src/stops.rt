@@ -4,7 +4,7 @@ use crate::call::{StopCall, StopReply};
 use crate::error::StopError;
 use crate::kind::StopKind;
 use crate::lists::{
-    Arrival, Breakpoint, Mode, Pop, Waiting, add_stops, drop_mode, has_breakpoint, has_pop,
+    Arrival, Breakpoint, Mode, Pop, Waiting, add_stops, drop_mode, has_breakpoint, has_pop, is_due,
     is_target, is_told_at, is_waiting, put_env, stops_for, tell_next,
 };
 use crate::stop::Stop;
@@ -191,7 +191,9 @@ impl Stops {
             leaves: Some(frames),
         })?;
         if stops {
-            self.pops.retain(|pop| !pop.is_left(thread, frames));
+            let (modes, envs) = (&self.modes, &self.envs);
+            self.pops
+                .retain(|pop| !is_due(modes, envs, thread, frames, pop));
         }
         Ok(StopReply::Stops(stops))
     }
