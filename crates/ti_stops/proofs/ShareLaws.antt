@@ -16,7 +16,7 @@ use Rattle.ti_stops.specs.declared.lists.Pop.{Pop}
 use Rattle.ti_stops.specs.declared.lists.Waiting.{Waiting}
 use Rattle.ti_stops.specs.declared.stop.Stop.{Stop}
 use Rattle.ti_stops.specs.Lists.{is_env, is_mode, is_mode_of, is_mode_at, is_heard, is_breakpoint, is_breakpoint_of, is_pop, is_pop_of, is_pop_at, is_popped, is_left, is_told_at, next_stop, next_told, waits_for, waits_at}
-use Rattle.ti_stops.specs.Stops.{StopsNow, no_stops, is_due, after, outcome, is_news, is_stop, stops_for, waits_by, reached_by, left_by, with_env, without_env, without_thread, hears, has_breakpoint, has_popped}
+use Rattle.ti_stops.specs.Stops.{StopsNow, no_stops, is_due, after, outcome, has_news, is_news, is_stop, stops_for, waits_by, reached_by, left_by, with_env, without_env, without_thread, hears, has_breakpoint, has_popped}
 use Rattle.ti_stops.specs.declared.kind.StopKind.TheVariants as kind
 use Rattle.ti_stops.specs.declared.call.StopReply.{StopReply}
 use Rattle.ti_stops.specs.declared.error.StopError.{StopError}
@@ -96,14 +96,16 @@ nobody_waits g (x ∷ envs) h = grind (arith, nobody_waits g envs, h)
 abbrev reached_now : StopsNow → ThreadNo → Frame → StopsNow
 reached_now s t at = record s { waiting = s.waiting ++ waits_by (reached_by s t at) s.envs }
 
+-- a thread that stops for nobody changes nothing
+pub quiet_reached : (s : StopsNow) (t : ThreadNo) (at : Frame) → stops_for (reached_by s t at) s.envs ≡ false → reached_now s t at ≡ s
+quiet_reached s t at goes = ap (λ (l : List Waiting). record s { waiting = l }) (ap (λ l. s.waiting ++ l) (nobody_waits (reached_by s t at) s.envs goes) ∙ append-nil s.waiting)
+
 -- a thread that reaches a place, whether it stops or not
 reached_is : (s : StopsNow) (o : Option EnvNo) (t : ThreadNo) (at : Frame) → happened s (Made o (Reached t at)) ≡ reached_now s t at
 reached_is s o t at =
     elim (cases_Bool (stops_for (reached_by s t at) s.envs)) [
       | inl stops ↦ ap (λ b. cond b (reached_now s t at) s) stops
-      | inr goes ↦
-          ap (λ b. cond b (reached_now s t at) s) goes
-          ∙ ap (λ (l : List Waiting). record s { waiting = l }) (sym (append-nil s.waiting) ∙ ap (λ l. s.waiting ++ l) (sym (nobody_waits (reached_by s t at) s.envs goes)))
+      | inr goes ↦ ap (λ b. cond b (reached_now s t at) s) goes ∙ sym (quiet_reached s t at goes)
     ]
 
 reached_shares : (e : EnvNo) (s : StopsNow) (t : ThreadNo) (at : Frame) → share e (reached_now s t at) ≡ reached_now (share e s) t at
@@ -189,15 +191,17 @@ other_made e f s call (Err x) n h = refl
 abbrev left_now : StopsNow → ThreadNo → Frame → ℕ → StopsNow
 left_now s t at n = record s { pops = filter (λ p. not (is_due s t n p)) s.pops; waiting = s.waiting ++ waits_by (left_by s t at n) s.envs }
 
+pub quiet_left : (s : StopsNow) (t : ThreadNo) (at : Frame) (n : ℕ) → stops_for (left_by s t at n) s.envs ≡ false → left_now s t at n ≡ s
+quiet_left s t at n goes =
+    ap₂ (λ (p : List Pop) (l : List Waiting). record s { pops = p; waiting = l }) (none_goes (is_due s t n) s.pops (none_due s t at n goes))
+    (ap (λ l. s.waiting ++ l) (nobody_waits (left_by s t at n) s.envs goes) ∙ append-nil s.waiting)
+
 -- a frame that is left, whether the thread stops or not
 left_is : (s : StopsNow) (o : Option EnvNo) (t : ThreadNo) (at : Frame) (n : ℕ) → happened s (Made o (Leaves t at n)) ≡ left_now s t at n
 left_is s o t at n =
     elim (cases_Bool (stops_for (left_by s t at n) s.envs)) [
       | inl stops ↦ ap (λ b. cond b (left_now s t at n) s) stops
-      | inr goes ↦
-          ap (λ b. cond b (left_now s t at n) s) goes
-          ∙ ap₂ (λ (p : List Pop) (l : List Waiting). record s { pops = p; waiting = l }) (sym (none_goes (is_due s t n) s.pops (none_due s t at n goes)))
-          (sym (append-nil s.waiting) ∙ ap (λ l. s.waiting ++ l) (sym (nobody_waits (left_by s t at n) s.envs goes)))
+      | inr goes ↦ ap (λ b. cond b (left_now s t at n) s) goes ∙ sym (quiet_left s t at n goes)
     ]
 
 due_share : (e : EnvNo) (s : StopsNow) (t : ThreadNo) (n : ℕ) (p : Pop) → is_pop_of e p ≡ true → is_due s t n p ≡ is_due (share e s) t n p
@@ -363,3 +367,16 @@ item_apart e s (Some f) (ClearBreakpoint at) h = other_after e f s (ClearBreakpo
 item_apart e s (Some f) (NotifyFramePop t n) h = other_after e f s (NotifyFramePop t n) (still_not (f.0 == e.0) h) refl
 item_apart e s (Some f) Next h = other_after e f s Next (still_not (f.0 == e.0) h) refl
 item_apart e s (Some f) (LetGo t) h = other_after e f s (LetGo t) (still_not (f.0 == e.0) h) refl
+
+-- an arrival that is no news to a share leaves it as it is
+pub quiet_item : (o : Option EnvNo) (u : StopsNow) (call : StopCall) → is_envs call ≡ false → has_news (outcome u o call) ≡ false → after u o call ≡ u
+quiet_item o u (Reached t at) h k = quiet_reached u t at k
+quiet_item o u (Leaves t at n) h k = quiet_left u t at n k
+quiet_item o u (IsStopped t) h k = refl
+quiet_item o u (Enable k t) h n = cc
+quiet_item o u (Disable k t) h n = cc
+quiet_item o u (SetBreakpoint at) h n = cc
+quiet_item o u (ClearBreakpoint at) h n = cc
+quiet_item o u (NotifyFramePop t m) h n = cc
+quiet_item o u Next h n = cc
+quiet_item o u (LetGo t) h n = cc

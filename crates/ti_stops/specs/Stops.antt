@@ -154,11 +154,33 @@ after s o (Reached t at) = with_reached s t at
 after s o (Leaves t at n) = with_left s t at n
 after s o (IsStopped t) = s
 
+-- whether a call needs memory for what it changes. `Disable`, `ClearBreakpoint`, `Next`, `LetGo` and `IsStopped` need none
+abbrev pub takes_memory : StopCall → Bool
+takes_memory (Enable k t) = true
+takes_memory (Disable k t) = false
+takes_memory (SetBreakpoint at) = true
+takes_memory (ClearBreakpoint at) = false
+takes_memory (NotifyFramePop t n) = true
+takes_memory Next = false
+takes_memory (LetGo t) = false
+takes_memory (Reached t at) = true
+takes_memory (Leaves t at n) = true
+takes_memory (IsStopped t) = false
+
+-- whether the call is answered with news
+abbrev pub has_news : Result StopReply StopError → Bool
+has_news (Ok r) = is_news r
+has_news (Err e) = false
+
+-- the call would change something and needs memory for it, and there is none
+abbrev pub LacksMemory : StopsNow → Option EnvNo → StopCall → StopError → Type 0
+LacksMemory s o call e = (e ≡ OutOfMemory) × ((takes_memory call && has_news (outcome s o call)) ≡ true)
+
 -- a call is answered, and only news changes the stops; or it is refused, and changes nothing
 abbrev pub Obeys : StopsNow → StopsNow → Option EnvNo → StopCall → Result StopReply StopError → Type 0
 Obeys s t o call result =
     IfOk result (λ r. (outcome s o call ≡ Ok r) × (t ≡ (if is_news r then after s o call else s)))
-    × IfErr result (λ e. ((e ≡ OutOfMemory) ⊎ (outcome s o call ≡ Err e)) × (t ≡ s))
+    × IfErr result (λ e. (LacksMemory s o call e ⊎ (outcome s o call ≡ Err e)) × (t ≡ s))
 
 -- the stops without an environment, which is disposed of
 abbrev pub without_env : StopsNow → EnvNo → StopsNow

@@ -67,14 +67,15 @@ impl Stops {
     ///   it yet.
     /// - 40 DUPLICATE: the environment has this breakpoint, or waits for this pop already.
     /// - 41 NOT_FOUND: at `ClearBreakpoint`, the environment has no such breakpoint.
-    /// - 110 OUT_OF_MEMORY: there is no memory for it.
+    /// - 110 OUT_OF_MEMORY: there is no memory for what the call would change. `Disable`, `ClearBreakpoint`, `Next`, `LetGo` and
+    ///   `IsStopped` need none.
     /// - 116 INVALID_ENVIRONMENT: an environment's call by whoever is none.
     ///
     /// An answer that is no news (`StopReply::is_news`) changes nothing either.
     pub fn call(&mut self, env: Option<EnvNo>, call: StopCall) -> Result<StopReply, StopError>
         ensures outcome { IfOk result (λ r. outcome self.old env call ≡ Ok r) }
         ensures after { IfOk result (λ r. self.new ≡ (if is_news r then after self.old env call else self.old)) }
-        ensures refused { IfErr result (λ e. (e ≡ OutOfMemory) ⊎ (outcome self.old env call ≡ Err e)) }
+        ensures refused { IfErr result (λ e. LacksMemory self.old env call e ⊎ (outcome self.old env call ≡ Err e)) }
         ensures unchanged { OnErr result (self.new ≡ self.old) }
     {
         match (call, env) {
@@ -203,7 +204,7 @@ impl Stops {
     fn arrive(&mut self, arrival: Arrival) -> Result<bool, StopError>
         ensures stops { IfOk result (λ b. b ≡ stops_for (stop_in self.old arrival) self.old.envs) }
         ensures after { IfOk result (λ b. self.new ≡ (if b then arrived self.old arrival else self.old)) }
-        ensures refused { IfErr result (λ e. e ≡ OutOfMemory) }
+        ensures refused { IfErr result (λ e. (e ≡ OutOfMemory) × (stops_for (stop_in self.old arrival) self.old.envs ≡ true)) }
         ensures unchanged { OnErr result (self.new ≡ self.old) }
     {
         if !stops_for(
@@ -249,9 +250,9 @@ impl Stops {
     }
 }
 
-ghost use Rattle.std.specs.Prelude.{◌≡◌, ◌⊎◌, if◌then◌else◌, Some, None, Ok, IfOk, IfErr, OnErr};
+ghost use Rattle.std.specs.Prelude.{◌≡◌, ◌⊎◌, if◌then◌else◌, true, Some, None, Ok, IfOk, IfErr, OnErr};
 ghost use Rattle.ti_stops.specs.declared.error.StopError.TheVariants.{OutOfMemory};
 ghost use Rattle.ti_stops.specs.declared.call.StopCall.TheVariants.{ClearBreakpoint, Enable, Leaves, LetGo, Next, NotifyFramePop, Reached, SetBreakpoint};
 ghost use Rattle.ti_stops.specs.declared.call.StopReply.TheVariants.{Told};
 ghost use Rattle.ti_stops.specs.Arrivals.{arrived, stop_in};
-ghost use Rattle.ti_stops.specs.Stops.{Obeys, after, is_news, is_watched, no_stops, outcome, stops_for, without_env, without_thread};
+ghost use Rattle.ti_stops.specs.Stops.{LacksMemory, Obeys, after, is_news, is_watched, no_stops, outcome, stops_for, without_env, without_thread};
