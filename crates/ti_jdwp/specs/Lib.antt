@@ -25,6 +25,7 @@ pub mod Plans
 pub mod Constants
 pub mod Talks
 pub mod Steps
+pub mod Memory
 pub mod Asking
 pub mod Answered
 pub mod Notes

@@ -16,14 +16,14 @@ pub(crate) struct Line {
 }
 
 impl Model for Line {
-    ghost use Rattle.std.specs.Prelude.{◌≤◌, drop, length};
+    ghost use Rattle.std.specs.Prelude.{◌≡◌, ◌≤◌, drop, length};
     ghost use Rattle.ti_jdwp.specs.Lines.{Bytes};
 
     ghost Value = { Bytes };
 
     ghost view = { λ l. record { input = drop l.read l.received.items; output = drop l.sent l.to_send.items } };
 
-    ghost invariant = { λ l. (l.read ≤ length l.received.items) × (l.sent ≤ length l.to_send.items) };
+    ghost invariant = { λ l. (l.read ≤ length l.received.items) × (l.sent ≤ length l.to_send.items) × (length l.received.items ≤ 65536) × (l.sent ≡ length l.to_send.items → l.sent ≡ 0) };
 }
 
 /// Drops the bytes in front.
@@ -63,6 +63,7 @@ impl Line {
 
     /// Adds bytes that came. 110 OUT_OF_MEMORY if there is no memory for them: nothing changes.
     pub(crate) fn feed(&mut self, bytes: &[u8]) -> Result<(), JdwpError>
+        requires { length self.old.input + length bytes.now ≤ 65536 }
         ensures ok { OnOk result (self.new ≡ with_input self.old bytes.now) }
         ensures memory { IfErr result (λ e. e ≡ OutOfMemory) }
         ensures err { OnErr result (self.new ≡ self.old) }
@@ -139,7 +140,7 @@ impl Line {
     }
 }
 
-ghost use Rattle.std.specs.Prelude.{◌≡◌, ◌≤◌, length, drop, IfErr, OnOk, OnErr};
+ghost use Rattle.std.specs.Prelude.{◌≡◌, ◌≤◌, ◌+◌, length, drop, IfErr, OnOk, OnErr};
 ghost use Rattle.ti_jdwp.specs.Sent.{answered, event_packet};
 ghost use Rattle.ti_jdwp.specs.Lines.{no_bytes, with_input, without_input, with_reply, with_output, with_written, handshake};
 ghost use Rattle.ti_jdwp.specs.declared.error.JdwpError.TheVariants.{OutOfMemory};

@@ -130,6 +130,7 @@ impl Session {
         ensures taken { IfOk result (λ n. n ≡ min (length bytes.now) (room_in self.old)) }
         ensures fed { IfOk result (λ n. self.new ≡ fed self.old (take n bytes.now)) }
         ensures memory { IfErr result (λ e. e ≡ OutOfMemory) }
+        ensures free { IfErr result (λ _. 0 < min (length bytes.now) (room_in self.old)) }
         ensures err { OnErr result (self.new ≡ self.old) }
     {
         let count = bytes.len().min(self.room());
@@ -193,7 +194,7 @@ impl Session {
     }
 }
 
-ghost use Rattle.std.specs.Prelude.{◌≡◌, ◌≤◌, true, length, take, min, IfOk, IfErr, OnOk, OnErr};
+ghost use Rattle.std.specs.Prelude.{◌≡◌, ◌≤◌, ◌<◌, true, length, take, min, IfOk, IfErr, OnOk, OnErr};
 ghost use Rattle.ti_jdwp.specs.Holds.{count_of};
 ghost use Rattle.ti_jdwp.specs.Lines.{with_written};
 ghost use Rattle.ti_jdwp.specs.Sent.{answered};

@@ -18,6 +18,7 @@ impl Session {
     pub fn next(&mut self) -> Result<Action, SessionError>
         ensures action { IfOk result (λ a. Goes self.old a self.new) }
         ensures memory { IfErr result (λ e. e ≡ OutOfMemory) }
+        ensures free { IfErr result (λ _. Takes self.old) }
         ensures err { OnErr result (Fails self.old self.new) }
     {
         if matches!(self.phase, Phase::Ending) {
@@ -86,6 +87,7 @@ impl Session {
     fn greet(&mut self) -> Result<Action, SessionError>
         ensures ok { IfOk result (λ a. Does (greets self.old) a self.new) }
         ensures memory { IfErr result (λ e. e ≡ OutOfMemory) }
+        ensures free { IfErr result (λ _. take 14 self.old.bytes.input ≡ handshake) }
         ensures err { OnErr result (self.new ≡ self.old) }
     {
         let input = self.line.input();
@@ -116,6 +118,7 @@ impl Session {
     fn go_on(&mut self) -> Result<Action, SessionError>
         ensures ok { IfOk result (λ a. GoesOn self.old a self.new) }
         ensures memory { IfErr result (λ e. e ≡ OutOfMemory) }
+        ensures free { IfErr result (λ _. GoingOnTakes self.old) }
         ensures err { OnErr result (self.new ≡ record self.old { first = self.new.first }) }
     {
         match self.events.take() {
@@ -133,6 +136,7 @@ impl Session {
     fn read(&mut self) -> Result<Action, SessionError>
         ensures ok { IfOk result (λ a. Reads self.old a self.new) }
         ensures memory { IfErr result (λ e. e ≡ OutOfMemory) }
+        ensures free { IfErr result (λ _. ReadTakes self.old) }
         ensures err { OnErr result (self.new ≡ record self.old { first = self.new.first }) }
     {
         match front_of(self.line.input()) {
@@ -195,6 +199,7 @@ impl Session {
     fn resume_next(&mut self) -> Result<Action, SessionError>
         ensures ok { IfOk result (λ a. ResumesNext self.old a self.new) }
         ensures memory { IfErr result (λ e. e ≡ OutOfMemory) }
+        ensures free { IfErr result (λ _. self.old.work ≡ []) }
         ensures err { OnErr result (self.new ≡ self.old) }
     {
         match self.work.pop() {
@@ -217,6 +222,7 @@ impl Session {
     fn finish(&mut self, purpose: Purpose) -> Result<Action, SessionError>
         ensures ok { IfOk result (λ a. Does (finishes purpose self.old) a self.new) }
         ensures memory { IfErr result (λ e. e ≡ OutOfMemory) }
+        ensures free { IfErr result (λ _. finish_takes purpose self.old ≡ true) }
         ensures err { OnErr result (self.new ≡ self.old) }
     {
         match purpose {
@@ -241,6 +247,7 @@ impl Session {
     fn tell(&mut self) -> Result<Action, SessionError>
         ensures ok { IfOk result (λ a. Does (told_by self.old.notice, tells self.old.notice self.old) a self.new) }
         ensures memory { IfErr result (λ e. e ≡ OutOfMemory) }
+        ensures free { IfErr result (λ _. is_some self.old.notice ≡ true) }
         ensures err { OnErr result (self.new ≡ self.old) }
     {
         let action = told_by(&self.notice);
@@ -278,7 +285,9 @@ pub(crate) fn after(purpose: Purpose) -> Phase
     }
 }
 
-ghost use Rattle.std.specs.Prelude.{◌≡◌, IfOk, IfErr, OnErr};
+ghost use Rattle.std.specs.Prelude.{◌≡◌, true, [], take, is_some, IfOk, IfErr, OnErr};
+ghost use Rattle.ti_jdwp.specs.Lines.{handshake};
+ghost use Rattle.ti_jdwp.specs.Memory.{Takes, GoingOnTakes, ReadTakes, finish_takes};
 ghost use Rattle.ti_jdwp.specs.Talks.{stopped, starved, greets, after};
 ghost use Rattle.ti_jdwp.specs.Steps.{Does, Goes, Fails, EndsBy, GoesOn, Reads, BeginsEvent, SuspendsBy, SuspendsNext, ResumesNext, finishes, tells, told_by};
 ghost use Rattle.ti_jdwp.specs.declared.actions.Action.TheVariants.{Again, Write};

@@ -19,6 +19,7 @@ impl Session {
     pub(crate) fn serve(&mut self, first: First) -> Result<Action, SessionError>
         ensures ok { IfOk result (λ a. Serves (record self.old { first = first }) a self.new) }
         ensures memory { IfErr result (λ e. e ≡ OutOfMemory) }
+        ensures free { IfErr result (λ _. request_takes first self.old ≡ true) }
         ensures err { OnErr result (self.new ≡ record self.old { first = first }) }
     {
         self.first = first;
@@ -33,6 +34,7 @@ impl Session {
     fn follow(&mut self, plan: Plan, request: Request) -> Result<Action, SessionError>
         ensures ok { IfOk result (λ a. ServesBy plan request self.old a self.new) }
         ensures memory { IfErr result (λ e. e ≡ OutOfMemory) }
+        ensures free { IfErr result (λ _. plan_takes plan self.old ≡ true) }
         ensures err { OnErr result (self.new ≡ self.old) }
     {
         match plan {
@@ -228,10 +230,11 @@ impl Session {
     }
 }
 
-ghost use Rattle.std.specs.Prelude.{◌≡◌, IfOk, IfErr, OnErr};
+ghost use Rattle.std.specs.Prelude.{◌≡◌, true, IfOk, IfErr, OnErr};
 ghost use Rattle.ti_jdwp.specs.Asking.{reading_of};
 ghost use Rattle.ti_jdwp.specs.Errors.{number_of};
 ghost use Rattle.ti_jdwp.specs.Fields.{int};
+ghost use Rattle.ti_jdwp.specs.Memory.{plan_takes, request_takes};
 ghost use Rattle.ti_jdwp.specs.Talks.{replied};
 ghost use Rattle.ti_jdwp.specs.Steps.{Does, Serves, ServesBy, ResumesOne, Puts, PutsInForce, Sets, SetsEvent, clears};
 ghost use Rattle.ti_jdwp.specs.declared.actions.Action.TheVariants.{Ask, Write};
