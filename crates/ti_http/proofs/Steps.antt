@@ -13,6 +13,7 @@ use Rattle.ti_http.specs.declared.error.HttpError.{HttpError}
 use Rattle.ti_http.specs.declared.head.Seen.TheVariants as seen
 use Rattle.ti_http.specs.declared.refusals.Refusal.{Refusal}
 use Rattle.ti_http.specs.Heads.{limits, Sees}
+use Rattle.ti_http.specs.Memory.{ReadTakes}
 use Rattle.ti_http.specs.Talks.{Talk, GoesWith, Reads, refuses}
 
 -- why a server that waits for a request refuses its input
@@ -24,6 +25,11 @@ broken s input room r e is_new is h =
 pub reads_broken : (old new : Talk) (now : ℕ) (refusal : Refusal) (r : Result Action HttpError) → Sees old.hosts old.input (seen.Broken refusal) → IfOk r (λ a. (a ≡ action.Write) × (new ≡ refuses old now refusal)) → IfOk r (λ a. Reads old now a new)
 reads_broken old new now refusal (Ok a) sees h = (seen.Broken refusal, sees, λ i. (h.0 i, h.1 i))
 reads_broken old new now refusal (Err e) sees h = tt
+
+-- only then memory may lack
+pub takes_broken : (t : Talk) (refusal : Refusal) (r : Result Action HttpError) → Sees t.hosts t.input (seen.Broken refusal) → IfErr r (λ e. ReadTakes t)
+takes_broken t refusal (Ok a) sees = tt
+takes_broken t refusal (Err e) sees = (seen.Broken refusal, sees, refl)
 
 -- what is to be written goes first
 pub writes_first : (out : List ℕ) (t : Talk) (now : ℕ) → 0 < length out → GoesWith out t now action.Write t

@@ -1,14 +1,16 @@
 -- What an input begins with.
-use Rattle.std.specs.Prelude.{◌≡◌, ℕ, ◌<◌, ◌≤◌, Bool, true, false, not, ◌&&◌, List, map, length, drop, Option, Some, None, Result, Ok, Err, ◌==◌, codes, bytes_eq}
+use Rattle.std.specs.Prelude.{◌≡◌, ℕ, ◌<◌, ◌≤◌, ◌⊎◌, Bool, true, false, not, ◌&&◌, List, map, length, drop, Option, Some, None, Result, Ok, Err, ◌==◌, codes, bytes_eq}
+use Rattle.httparse.specs.declared.Error.TheVariants as parser
 use Rattle.httparse.specs.Grammar.{RequestHead, HasNoRequest, MayBecomeRequest}
-use Rattle.httparse.specs.Spans.{name_and_value}
+use Rattle.httparse.specs.Spans.{name_and_value, RequestOverflows, RequestExceeds}
 use Rattle.http1.specs.declared.conn.Limits.{Limits}
 use Rattle.http1.specs.declared.error.ReadError.{ReadError}
+use Rattle.http1.specs.declared.error.ReadError.TheVariants as read
 use Rattle.http1.specs.declared.framing.Framing.{Framing}
 use Rattle.http1.specs.declared.framing.Framing.TheVariants as framed
 use Rattle.http1.specs.Fields.{Header, known_fields}
 use Rattle.http1.specs.Message.{AcceptsRequest}
-use Rattle.http1.specs.ReadError.{RequestError}
+use Rattle.http1.specs.ReadError.{HasRequest, RequestError}
 use Rattle.ti_http.specs.declared.answers.Manner.{Manner}
 use Rattle.ti_http.specs.declared.head.Request.{Request}
 use Rattle.ti_http.specs.declared.head.Seen.{Seen}
@@ -56,8 +58,17 @@ pub record IsWhole (hosts : Hosts) (input : List ℕ) (w : Whole) : Type 0 where
   pub manner : w.manner ≡ manner_at head.method head.minor (fields_of head)
   pub outcome : Judges (refusal_in hosts head.method head.target (has_content framing) (fields_of head)) head.method head.target w.outcome
 
+-- A front of the input and an empty line are a head of more than 64 fields. Or the input begins with a head, or has 8,192 bytes,
+-- and each head that bytes behind it can make of it has more than 64 fields.
+abbrev pub HasTooManyFields : List ℕ → Type 0
+HasTooManyFields input = RequestExceeds 64 input ⊎ (RequestOverflows 64 input × (HasRequest input (λ h. Unit {0}) ⊎ (8192 ≤ length input)))
+
+-- The input is no head for this reason. Where that is the number of fields, there are too many.
+abbrev pub IsNoHead : List ℕ → ReadError → Type 0
+IsNoHead input e = RequestError 8192 input 64 e × (e ≡ read.Parse parser.TooManyHeaders → HasTooManyFields input)
+
 -- Bytes may follow that make a head of the input; or no bytes can, for this reason; or it begins with one.
 abbrev pub Sees : Hosts → List ℕ → Seen → Type 0
 Sees hosts input seen.More = HasNoRequest input × (length input < 8192) × MayBecomeRequest input
-Sees hosts input (seen.Broken r) = (e : ReadError) × RequestError 8192 input 64 e × (r ≡ refusal_of input e)
+Sees hosts input (seen.Broken r) = (e : ReadError) × IsNoHead input e × (r ≡ refusal_of input e)
 Sees hosts input (seen.Whole w) = IsWhole hosts input w

@@ -4,4 +4,5 @@ pub mod Targets
 pub mod Refusals
 pub mod Heads
 pub mod Talks
+pub mod Memory
 pub mod Runs

@@ -55,7 +55,7 @@ pub struct Connection {
 }
 
 impl Model for Connection {
-    ghost use Rattle.std.specs.Prelude.{◌≤◌, drop, length};
+    ghost use Rattle.std.specs.Prelude.{◌≡◌, ◌≤◌, drop, length};
     ghost use Rattle.ti_http.specs.Talks.{Talk, IsSound};
 
     ghost Value = { Talk };
@@ -71,7 +71,7 @@ impl Model for Connection {
       answered = c.answered;
     } };
 
-    ghost invariant = { λ c. (c.sent ≤ length c.output.items) × IsSound c.input.items (drop c.sent c.output.items) c.phase c.asked c.answered };
+    ghost invariant = { λ c. (c.sent ≤ length c.output.items) × IsSound c.input.items (drop c.sent c.output.items) c.phase c.asked c.answered × (c.sent ≡ length c.output.items → c.sent ≡ 0) };
 }
 
 impl Connection {
@@ -129,6 +129,7 @@ impl Connection {
         ensures taken { IfOk result (λ n. n ≡ min (length bytes.now) (room_in self.old)) }
         ensures fed { IfOk result (λ n. self.new ≡ fed self.old (take n bytes.now) now) }
         ensures memory { IfErr result (λ e. e ≡ OutOfMemory) }
+        ensures free { IfErr result (λ _. 0 < min (length bytes.now) (room_in self.old)) }
         ensures err { OnErr result (self.new ≡ self.old) }
     {
         let count = bytes.len().min(self.room());
@@ -233,6 +234,7 @@ impl Connection {
     pub fn tick(&mut self, now: u64) -> Result<(), HttpError>
         ensures ok { OnOk result (self.new ≡ ticked self.old now) }
         ensures memory { IfErr result (λ e. e ≡ OutOfMemory) }
+        ensures free { IfErr result (λ _. is_late self.old now ≡ true) }
         ensures err { OnErr result (self.new ≡ self.old) }
     {
         let Some(patience) = self.patience() else {
@@ -250,6 +252,7 @@ impl Connection {
     }
 }
 
-ghost use Rattle.std.specs.Prelude.{◌≡◌, ◌+◌, ◌≤◌, length, take, min, Some, Err, IfOk, IfErr, IsErrOf, OnOk, OnErr};
+ghost use Rattle.std.specs.Prelude.{◌≡◌, ◌+◌, ◌≤◌, ◌<◌, true, length, take, min, Some, Err, IfOk, IfErr, IsErrOf, OnOk, OnErr};
+ghost use Rattle.ti_http.specs.Memory.{is_late};
 ghost use Rattle.ti_http.specs.Talks.{opened, room_in, outstanding, fed, ended_by_peer, written_from, answered_by, patience, deadline_of, ticked};
 ghost use Rattle.ti_http.specs.declared.error.HttpError.TheVariants.{NotAsked, OutOfMemory};

@@ -6,8 +6,9 @@ use crate::hosts::Hosts;
 use crate::refusals::Refusal;
 use crate::target::Target;
 use http1::fields::KnownFields;
-use http1::{BodySize, Event, Limits, Server};
-use httparse::spans::{EMPTY_HEADER_SPAN, HeaderSpan, RequestSpans};
+use http1::{BodySize, Event, Limits, ReadError, Server};
+use httparse::Status;
+use httparse::spans::{EMPTY_HEADER_SPAN, HeaderSpan, RequestSpans, parse_request};
 
 /// Bytes of a head, with empty lines before it and the one at its end, at most.
 pub const MAX_HEAD: usize = 8192;
@@ -155,6 +156,22 @@ fn make_whole(
     }
 }
 
+/// What the input is that `http1` refuses. Where it has too many fields, the parser is asked once more, since it alone says that it
+/// has them.
+fn refused(input: &[u8], hosts: Hosts, error: ReadError) -> Seen
+    ensures { RequestError 8192 input.now 64 error → Sees hosts input.now result }
+{
+    if error != ReadError::Parse(httparse::Error::TooManyHeaders) {
+        return Seen::Broken(Refusal::of(input, error));
+    }
+    let mut spans = [EMPTY_HEADER_SPAN; MAX_FIELDS];
+    match parse_request(input, &mut spans) {
+        Err(parser) => Seen::Broken(Refusal::of(input, ReadError::Parse(parser))),
+        Ok(Status::Partial) if input.len() < MAX_HEAD => Seen::More,
+        Ok(_) => Seen::Broken(Refusal::HeadTooLarge),
+    }
+}
+
 /// What the input begins with.
 pub(crate) fn look(input: &[u8], hosts: Hosts) -> Seen
     ensures { Sees hosts input.now result }
@@ -169,12 +186,13 @@ pub(crate) fn look(input: &[u8], hosts: Hosts) -> Seen
             }
             _ => Seen::More,
         },
-        Err(error) => Seen::Broken(Refusal::of(input, error)),
+        Err(error) => refused(input, hosts, error),
     }
 }
 
 ghost use Rattle.std.specs.Prelude.{◌≡◌, length, map, take, All, is_some};
 ghost use Rattle.httparse.specs.Spans.{IsHeaderWithin, IsRequestWithin, header_bytes, span_bytes};
+ghost use Rattle.http1.specs.ReadError.{RequestError};
 ghost use Rattle.ti_http.specs.Targets.{found};
 ghost use Rattle.ti_http.specs.Refusals.{method_of, known_methods, begins_with_slash, refusal_in};
 ghost use Rattle.ti_http.specs.Heads.{Judges, manner_at, Sees};

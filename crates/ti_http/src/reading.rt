@@ -14,6 +14,7 @@ impl Connection {
     pub fn next(&mut self, now: u64) -> Result<Action, HttpError>
         ensures action { IfOk result (λ action. Goes self.old now action self.new) }
         ensures memory { IfErr result (λ e. e ≡ OutOfMemory) }
+        ensures free { IfErr result (λ _. Takes self.old) }
         ensures err { OnErr result (self.new ≡ self.old) }
     {
         if self.sent < self.output.len() {
@@ -36,6 +37,7 @@ impl Connection {
         requires output { self.old.output ≡ [] }
         ensures action { IfOk result (λ action. Reads self.old now action self.new) }
         ensures memory { IfErr result (λ e. e ≡ OutOfMemory) }
+        ensures free { IfErr result (λ _. ReadTakes self.old) }
         ensures err { OnErr result (self.new ≡ self.old) }
     {
         match look(self.input.as_slice(), self.hosts) {
@@ -57,6 +59,7 @@ impl Connection {
         requires output { self.old.output ≡ [] }
         ensures action { IfOk result (λ action. (action, self.new) ≡ starves self.old now) }
         ensures memory { IfErr result (λ e. e ≡ OutOfMemory) }
+        ensures free { IfErr result (λ _. is_cut self.old ≡ true) }
         ensures err { OnErr result (self.new ≡ self.old) }
     {
         if !self.ended {
@@ -158,6 +161,7 @@ impl Connection {
 }
 
 ghost use Rattle.std.specs.Prelude.{◌≡◌, ◌≤◌, ◌<◌, ◌+◌, true, [], length, drop, IfOk, IfErr, OnOk, OnErr};
+ghost use Rattle.ti_http.specs.Memory.{Takes, ReadTakes, is_cut};
 ghost use Rattle.ti_http.specs.Talks.{outstanding, Goes, Reads, closed, starves, asks, refused_with, refuses, refuses_whole};
 ghost use Rattle.ti_http.specs.declared.connection.Action.TheVariants.{Write};
 ghost use Rattle.ti_http.specs.declared.connection.Phase.TheVariants.{Reading};
