@@ -1,6 +1,7 @@
 pub mod Digits
 pub mod OnBool
 pub mod TrieLaws
+pub mod AskedLaws
 pub mod RowLaws
 pub mod SampleLaws
 pub mod PlaceLaws

@@ -7,7 +7,7 @@ use Rattle.std.proofs.lemmas.List.Sums.{sum_by-cons}
 use Rattle.ti_pprof.specs.declared.stacks.Frame.{Frame}
 use Rattle.ti_pprof.specs.declared.stacks.Node.{Node}
 use Rattle.ti_pprof.specs.declared.table.Row.{Row}
-use Rattle.ti_pprof.specs.Stacks.{stack_at, stacks_of, Grows}
+use Rattle.ti_pprof.specs.Stacks.{stack_at, stacks_of, Grows, HasStack}
 use Rattle.ti_pprof.specs.Rows.{is_same_row, IsRowCounted}
 use Rattle.ti_pprof.specs.Samples.{Sample, sample, sample_of, samples_in, AreNumbered, IsCounted, IsThere}
 use Rattle.ti_pprof.proofs.TrieLaws.{stack_at-Grows}
@@ -60,7 +60,7 @@ abbrev pub AreDistinct : List (List Frame) → ℕ → Type 0
 AreDistinct stacks most = (m n : ℕ) → m ≤ most → n ≤ most → stack_at stacks m ≡ stack_at stacks n → m ≡ n
 
 -- a row that is not there is of a sample that is not there
-not_there : (stacks : List (List Frame)) (rows : List Row) (counts : List ℕ) (row : Row) (most : ℕ) → length counts ≡ length rows
+pub not_there : (stacks : List (List Frame)) (rows : List Row) (counts : List ℕ) (row : Row) (most : ℕ) → length counts ≡ length rows
     → AreDistinct stacks most → AreNumbered rows most → row.stack ≤ most → list_any (is_same_row row) rows ≡ false
     → IsThere (samples_in stacks rows counts) (stack_at stacks row.stack) row.thread row.state → ⊥
 not_there stacks rows counts row most same distinct numbered here absent there =
@@ -114,3 +114,23 @@ sum_by-samples_in stacks (row ∷ rows) (n ∷ counts) same =
 pub IsCounted-along : (a b new : List Sample) (f g : List Frame) (thread state times : ℕ) → a ≡ b → f ≡ g → IsCounted a new f thread state times → IsCounted b new g thread state times
 IsCounted-along a b new f g thread state times p q h =
     subst (λ (s : List Sample). IsCounted s new g thread state times) p (subst (λ (x : List Frame). IsCounted a new x thread state times) q h)
+
+-- a sample that is not there is not, whatever the samples and the stack are called
+pub absent_along : (a b : List Sample) (f g : List Frame) (thread state : ℕ) → a ≡ b → f ≡ g → ¬ (IsThere a f thread state) → ¬ (IsThere b g thread state)
+absent_along a b f g thread state p q absent =
+    subst (λ (s : List Sample). ¬ (IsThere s g thread state)) p (subst (λ (x : List Frame). ¬ (IsThere a x thread state)) q absent)
+
+-- a stack that is not there has no sample
+pub no_sample : (nodes : List Node) (rows : List Row) (counts : List ℕ) (frames : List Frame) (thread state : ℕ) → length counts ≡ length rows
+    → AreNumbered rows (length nodes) → ¬ (HasStack nodes frames) → ¬ (IsThere (samples_in (stacks_of nodes) rows counts) frames thread state)
+no_sample nodes rows counts frames thread state same numbered not there =
+    let i = there.0 in
+    let stacks = stacks_of nodes in
+    let inside = slice_get_within (samples_in stacks rows counts) i (sample frames thread state there.1) there.2 in
+    let within : i < length rows = omega (arith, inside, length-samples_in stacks rows counts same) in
+    let d : Row = record { stack = 0; thread = 0; state = 0 } in
+    let r = get_or rows i d in
+    let one = sample_of stacks r (get_or counts i 0) in
+    let equal : one ≡ sample frames thread state there.1 =
+    ap (λ o. unwrap_or o one) (sym (slice_get-samples_in stacks rows counts i d same within) ∙ there.2) in
+    not (r.stack, numbered i d within, ap (λ (s : Sample). s.frames) equal)

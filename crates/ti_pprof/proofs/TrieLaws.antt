@@ -151,7 +151,7 @@ neither false b h = (refl, h)
 neither true b h = absurd (cc)
 
 -- what no test finds is nowhere
-absent_at : (nodes : List Node) (node : Node) (i : ℕ) (d : Node) → list_any (is_same_node node) nodes ≡ false → i < length nodes → get_or nodes i d ≡ node → ⊥
+pub absent_at : (nodes : List Node) (node : Node) (i : ℕ) (d : Node) → list_any (is_same_node node) nodes ≡ false → i < length nodes → get_or nodes i d ≡ node → ⊥
 absent_at [] node i d absent within at = omega arith
 absent_at (n ∷ nodes) node zero d absent within at =
     let h = neither (is_same_node node n) (list_any (is_same_node node) nodes) absent in

@@ -1,5 +1,5 @@
 -- The stacks of a trie.
-use Rattle.std.specs.Prelude.{ℕ, ◌≡◌, ◌<◌, ◌≤◌, ◌&&◌, ◌==◌, Bool, List, [], ◌∷◌, ◌++◌, fold, get_or, length}
+use Rattle.std.specs.Prelude.{ℕ, ◌≡◌, ◌<◌, ◌≤◌, ◌&&◌, ◌==◌, Bool, List, [], ◌∷◌, ◌++◌, drop, fold, get_or, length}
 use Rattle.ti_pprof.specs.declared.stacks.Frame.{Frame}
 use Rattle.ti_pprof.specs.declared.stacks.Node.{Node}
 
@@ -26,6 +26,15 @@ AreDifferent nodes = (i j : ℕ) (d : Node) → i < length nodes → j < length 
 -- nodes are added behind those that were there
 abbrev pub Grows : List Node → List Node → Type 0
 Grows old new = (more : List Node) × (new ≡ old ++ more)
+
+-- one of the stacks has these frames
+abbrev pub HasStack : List Node → List Frame → Type 0
+HasStack nodes frames = (n : ℕ) × (n ≤ length nodes) × (stack_at (stacks_of nodes) n ≡ frames)
+
+-- each node that was added is a frame of this stack, on the frames that are older
+abbrev pub AreAsked : List Node → List Node → List Frame → Type 0
+AreAsked old new frames =
+    (n : ℕ) → length old < n → n ≤ length new → (k : ℕ) × (k < length frames) × (stack_at (stacks_of new) n ≡ drop k frames)
 
 -- whether two frames are of one function and one line
 abbrev pub is_same_frame : Frame → Frame → Bool

@@ -48,9 +48,13 @@ impl Counts {
         ensures counted { OnTrue result (IsCounted (samples_of self.old.trie self.old.table) (samples_of self.new.trie self.new.table) frames.now thread state times) }
         ensures kept { OnFalse result (samples_of self.new.trie self.new.table ≡ samples_of self.old.trie self.old.table) }
         ensures full { OnFalse result (IsFull self.new.trie self.new.table) }
+        ensures absent { OnFalse result (¬ (IsThere (samples_of self.old.trie self.old.table) frames.now thread state)) }
         ensures no_room { self.new.no_room ≡ self.old.no_room + (if result then 0 else times) }
         ensures total { self.new.total ≡ self.old.total + times }
         ensures bounds { SameBounds self.old.trie self.old.table self.new.trie self.new.table }
+        ensures grown { Grows self.old.trie.nodes.keys self.new.trie.nodes.keys }
+        ensures few { length self.new.trie.nodes.keys ≤ length self.old.trie.nodes.keys + length frames.now }
+        ensures asked { AreAsked self.old.trie.nodes.keys self.new.trie.nodes.keys frames.now }
     {
         match self.trie.number_of(frames) {
             Some(stack) => self.count(
@@ -76,6 +80,8 @@ impl Counts {
         ensures counted { OnTrue result (IsCounted (samples_of self.old.trie self.old.table) (samples_of self.new.trie self.new.table) (stack_at (stacks_of self.old.trie.nodes.keys) row.stack) row.thread row.state times) }
         ensures kept { OnFalse result (samples_of self.new.trie self.new.table ≡ samples_of self.old.trie self.old.table) }
         ensures full { OnFalse result (length self.new.table.rows.keys ≡ self.new.table.most) }
+        ensures absent { OnFalse result (¬ (IsThere (samples_of self.old.trie self.old.table) (stack_at (stacks_of self.old.trie.nodes.keys) row.stack) row.thread row.state)) }
+        ensures nodes { self.new.trie.nodes.keys ≡ self.old.trie.nodes.keys }
         ensures no_room { self.new.no_room ≡ self.old.no_room + (if result then 0 else times) }
         ensures total { self.new.total ≡ self.old.total + times }
         ensures bounds { SameBounds self.old.trie self.old.table self.new.trie self.new.table }
@@ -122,6 +128,6 @@ impl Counts {
 
 ghost use Rattle.std.specs.Prelude.{◌≡◌, ◌≤◌, ◌<◌, ◌+◌, ◌^◌, [], length, sum, if◌then◌else◌, IfOk};
 ghost use Rattle.std.specs.Bool.{OnTrue, OnFalse};
-ghost use Rattle.ti_pprof.specs.Stacks.{stack_at, stacks_of};
+ghost use Rattle.ti_pprof.specs.Stacks.{AreAsked, Grows, stack_at, stacks_of};
 ghost use Rattle.std.specs.List.{sum_by};
-ghost use Rattle.ti_pprof.specs.Samples.{AreNumbered, IsCounted, IsFull, SameBounds, Sample, samples_of};
+ghost use Rattle.ti_pprof.specs.Samples.{AreNumbered, IsCounted, IsFull, IsThere, SameBounds, Sample, samples_of};

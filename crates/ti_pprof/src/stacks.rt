@@ -52,6 +52,10 @@ impl Trie {
         ensures grown { Grows self.old.nodes.keys self.new.nodes.keys }
         ensures most { self.new.most ≡ self.old.most }
         ensures full { IfNone result (length self.new.nodes.keys ≡ self.new.most) }
+        ensures absent { IfNone result (¬ (HasStack self.old.nodes.keys (frame ∷ stack_at (stacks_of self.old.nodes.keys) rest))) }
+        ensures few { length self.new.nodes.keys ≤ length self.old.nodes.keys + 1 }
+        ensures asked { (n : ℕ) → length self.old.nodes.keys < n → n ≤ length self.new.nodes.keys
+            → stack_at (stacks_of self.new.nodes.keys) n ≡ frame ∷ stack_at (stacks_of self.old.nodes.keys) rest }
     {
         let most = self.most as usize;
         let node = Node { rest, frame };
@@ -83,6 +87,9 @@ impl Trie {
         ensures grown { Grows self.old.nodes.keys self.new.nodes.keys }
         ensures most { self.new.most ≡ self.old.most }
         ensures full { IfNone result (length self.new.nodes.keys ≡ self.new.most) }
+        ensures absent { IfNone result (¬ (HasStack self.old.nodes.keys frames.now)) }
+        ensures few { length self.new.nodes.keys ≤ length self.old.nodes.keys + length frames.now }
+        ensures asked { AreAsked self.old.nodes.keys self.new.nodes.keys frames.now }
     {
         let mut number = 0;
         let mut left = frames.len();
@@ -94,6 +101,6 @@ impl Trie {
     }
 }
 
-ghost use Rattle.std.specs.Prelude.{◌≡◌, ◌≤◌, ◌+◌, [], ◌∷◌, length, IfOk, IfSome, IfNone};
+ghost use Rattle.std.specs.Prelude.{◌≡◌, ◌≤◌, ◌<◌, ◌+◌, ℕ, [], ◌∷◌, length, IfOk, IfSome, IfNone};
 ghost use Rattle.indexmap.specs.IndexSet.{spare};
-ghost use Rattle.ti_pprof.specs.Stacks.{AreDifferent, AreOnEarlier, Grows, stack_at, stacks_of};
+ghost use Rattle.ti_pprof.specs.Stacks.{AreAsked, AreDifferent, AreOnEarlier, Grows, HasStack, stack_at, stacks_of};

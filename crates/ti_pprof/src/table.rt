@@ -48,6 +48,7 @@ impl Table {
         ensures rows_same { OnFalse result (self.new.rows.keys ≡ self.old.rows.keys) }
         ensures counts_same { OnFalse result (self.new.counts.items ≡ self.old.counts.items) }
         ensures full { OnFalse result (length self.new.rows.keys ≡ self.new.most) }
+        ensures absent { OnFalse result (list_any (is_same_row row) self.old.rows.keys ≡ false) }
         ensures most { self.new.most ≡ self.old.most }
     {
         let most = self.most as usize;
