@@ -5,6 +5,7 @@ use crate::error::ClassError;
 use crate::info::{ClassInfo, ClassNo, Defined};
 use crate::law::{Add, BookNumbers, Count, Law, Look, Nothing, SeenClasses};
 use crate::slots::Slots;
+use boxcar::slot::Written;
 use boxcar::tag::Tag;
 use logbook::{Offer, Seen, Start, Word};
 use std::alloc::Global;
@@ -17,6 +18,26 @@ const TRIES: u32 = 64;
 
 /// One class, in the word that has both counts.
 const HALF: u64 = 1 << 32;
+
+/// How many numbers a handle took for classes, and how many of them `put` went through with. No call reads them: that they are the
+/// same shows that a definition takes one number and leaves none behind.
+#[derive(Drop)]
+pub(crate) struct Own {
+    pub(crate) taken: u32,
+    pub(crate) stored: u32,
+}
+
+impl Own {
+    fn none() -> Own
+        ensures taken { result.taken ≡ 0 }
+        ensures stored { result.stored ≡ 0 }
+    {
+        Own {
+            taken: 0,
+            stored: 0,
+        }
+    }
+}
 
 /// What all handles of a table share. Contracts see which table it is.
 #[derive(Drop)]
@@ -82,14 +103,25 @@ impl Shared {
     }
 
     /// Puts a class at the end of the list, if it is still as long as was seen. It says whether it did.
-    fn add(&self, seen: &mut SeenClasses, class: &ClassInfo, classes: u32, methods: u32) -> bool
+    fn add(
+        &self,
+        seen: &mut SeenClasses,
+        own: &mut Own,
+        class: &ClassInfo,
+        classes: u32,
+        methods: u32,
+    ) -> bool
         requires book { seen.old.book ≡ self.now }
+        requires own { own.old.taken ≤ length seen.old.log }
         requires classes { classes ≡ length seen.old.log }
         requires methods { methods ≡ length (methods_in seen.old.log) }
         requires room { HasRoom seen.old.log class.now }
         ensures book { seen.new.book ≡ seen.old.book }
         ensures grows { IsPrefix seen.old.log seen.new.log }
         ensures added { result ≡ true → seen.new.log ≡ seen.old.log ++ class.now ∷ [] }
+        ensures taken { own.new.taken ≡ own.old.taken + (if result then 1 else 0) }
+        ensures stored { own.new.stored ≡ own.old.stored }
+        ensures own { own.new.taken ≤ length seen.new.log }
     {
         let old = classes as u64 * HALF + methods as u64;
         let new = old + HALF + class.methods.len() as u64;
@@ -97,9 +129,14 @@ impl Shared {
             class,
         );
         let mut pen = seen.no_pen();
-        self.count
-            .compare_exchange::<Add, Nothing>(old, new, seen, &mut offer, &mut pen)
-            == old
+        let found = self
+            .count
+            .compare_exchange::<Add, Nothing>(old, new, seen, &mut offer, &mut pen);
+        if found != old {
+            return false;
+        }
+        own.taken += 1;
+        true
     }
 
     /// Makes the slots of a class and of its methods, unless they are there.
@@ -134,10 +171,11 @@ impl Shared {
 pub struct Classes {
     pub(crate) shared: Arc<Shared>,
     pub(crate) seen: SeenClasses,
+    pub(crate) own: Own,
 }
 
 impl Model for Classes {
-    ghost use Rattle.std.specs.Prelude.{◌≡◌};
+    ghost use Rattle.std.specs.Prelude.{◌≡◌, ◌≤◌, length};
     ghost use Rattle.std.specs.Arc.{arc_value};
     ghost use Rattle.ti_methods.specs.Classes.{Known};
 
@@ -145,7 +183,7 @@ impl Model for Classes {
 
     ghost view = { λ c. record { book = c.seen.book; seen = c.seen.log } };
 
-    ghost invariant = { λ c. c.seen.book ≡ arc_value c.shared };
+    ghost invariant = { λ c. (c.seen.book ≡ arc_value c.shared) × (c.own.taken ≡ c.own.stored) × (c.own.taken ≤ length c.seen.log) };
 }
 
 impl Classes {
@@ -156,7 +194,11 @@ impl Classes {
     {
         let (shared, seen) = Shared::make(alloc)?;
         match Arc::new(alloc, shared) {
-            Ok(shared) => Ok(Classes { shared, seen }),
+            Ok(shared) => Ok(Classes {
+                shared,
+                seen,
+                own: Own::none(),
+            }),
             Err(_) => Err(ClassError::OutOfMemory),
         }
     }
@@ -171,6 +213,7 @@ impl Classes {
             Ok(shared) => Ok(Classes {
                 shared,
                 seen: self.seen.again(),
+                own: Own::none(),
             }),
             Err(_) => Err(ClassError::Full),
         }
@@ -185,45 +228,6 @@ impl Classes {
         ensures alike { AreAlike self.old.seen other.now.seen }
     {
         self.seen.learn(&other.seen);
-    }
-
-    /// Takes the next numbers for a class, unless another class comes before it.
-    fn number(&mut self, class: &ClassInfo) -> Result<Option<Defined>, ClassError>
-        ensures book { self.new.book ≡ self.old.book }
-        ensures grows { IsPrefix self.old.seen self.new.seen }
-        ensures taken { IfOk result (λ d. IfSome d (λ d. IsDefined self.old self.new class.now d × IsPut self.new.seen class.now d)) }
-        ensures refused { IfErr result (λ e. RefusesClass self.new.seen class.now e) }
-    {
-        let (number, first) = self.shared.load(&mut self.seen);
-        let methods = class.methods.len();
-        if number == u32::MAX || methods > (u32::MAX - first) as usize {
-            return Err(ClassError::Full);
-        }
-        self.shared.reserve(number, first, methods as u32)?;
-        if !self.shared.add(&mut self.seen, class, number, first) {
-            return Ok(None);
-        }
-        Ok(Some(Defined {
-            class: ClassNo(number),
-            first: MethodNo(first),
-        }))
-    }
-
-    /// Puts a class that has its numbers where it is found.
-    fn put(&self, class: ClassInfo, defined: Defined) -> Result<(), ClassInfo>
-        requires { IsPut self.now.seen class defined }
-        ensures { IfErr result (λ c. c ≡ class) }
-    {
-        self.shared.hint(defined.class.0, defined.first.0, class.methods.len() as u32);
-        let entry = Entry {
-            class,
-            first: defined.first.0,
-            seen: self.seen.again(),
-        };
-        match self.shared.classes.set(defined.class.0, entry) {
-            Ok(()) => Ok(()),
-            Err(Entry { class, .. }) => Err(class),
-        }
     }
 
     /// Defines a class with its methods. From now on all handles of the table are told of it. It never waits.
@@ -241,10 +245,10 @@ impl Classes {
         ensures back { IfErr result (λ r. r.1 ≡ class) }
     {
         for _ in 0..TRIES {
-            match self.number(&class) {
+            match number(&self.shared, &mut self.seen, &mut self.own, &class) {
                 Ok(Some(defined)) => {
-                    return match self.put(class, defined) {
-                        Ok(()) => Ok(defined),
+                    return match put(&self.shared, &self.seen, &mut self.own, class, defined) {
+                        Ok(_written) => Ok(defined),
                         Err(class) => Err((ClassError::Busy, class)),
                     };
                 }
@@ -256,7 +260,69 @@ impl Classes {
     }
 }
 
-ghost use Rattle.std.specs.Prelude.{◌≡◌, ◌+◌, ◌^◌, ◌<◌, ◌++◌, ◌∷◌, [], length, true, IfOk, IfErr, IfSome};
+/// Takes the next numbers for a class, unless another class comes before it.
+fn number(
+    shared: &Shared,
+    seen: &mut SeenClasses,
+    own: &mut Own,
+    class: &ClassInfo,
+) -> Result<Option<Defined>, ClassError>
+    requires book { seen.old.book ≡ shared.now }
+    requires own { own.old.taken ≤ length seen.old.log }
+    ensures book { seen.new.book ≡ seen.old.book }
+    ensures grows { IsPrefix seen.old.log seen.new.log }
+    ensures taken { IfOk result (λ d. IfSome d (λ d. IsDefined (record { book = seen.old.book; seen = seen.old.log }) (record { book = seen.new.book; seen = seen.new.log }) class.now d × IsPut seen.new.log class.now d)) }
+    ensures one { IfOk result (λ d. own.new.taken ≡ own.old.taken + (if is_some d then 1 else 0)) }
+    ensures none { OnErr result (own.new.taken ≡ own.old.taken) }
+    ensures stored { own.new.stored ≡ own.old.stored }
+    ensures own { own.new.taken ≤ length seen.new.log }
+    ensures refused { IfErr result (λ e. RefusesClass seen.new.log class.now e) }
+{
+    let (number, first) = shared.load(seen);
+    let methods = class.methods.len();
+    if number == u32::MAX || methods > (u32::MAX - first) as usize {
+        return Err(ClassError::Full);
+    }
+    shared.reserve(number, first, methods as u32)?;
+    if !shared.add(seen, own, class, number, first) {
+        return Ok(None);
+    }
+    Ok(Some(Defined {
+        class: ClassNo(number),
+        first: MethodNo(first),
+    }))
+}
+
+/// Puts a class that has its numbers where it is found, and gives what shows that it is there.
+fn put(
+    shared: &Shared,
+    seen: &SeenClasses,
+    own: &mut Own,
+    class: ClassInfo,
+    defined: Defined,
+) -> Result<Written<Entry>, ClassInfo>
+    requires book { seen.now.book ≡ shared.now }
+    requires put { IsPut seen.now.log class defined }
+    requires stored { own.old.stored < own.old.taken }
+    ensures written { IfOk result (λ w. (w.value.class ≡ class) × (w.value.first ≡ defined.first.0)) }
+    ensures back { IfErr result (λ c. c ≡ class) }
+    ensures taken { own.new.taken ≡ own.old.taken }
+    ensures stored { own.new.stored ≡ own.old.stored + 1 }
+{
+    shared.hint(defined.class.0, defined.first.0, class.methods.len() as u32);
+    let entry = Entry {
+        class,
+        first: defined.first.0,
+        seen: seen.again(),
+    };
+    own.stored += 1;
+    match shared.classes.set(defined.class.0, entry) {
+        Ok(written) => Ok(written),
+        Err(Entry { class, .. }) => Err(class),
+    }
+}
+
+ghost use Rattle.std.specs.Prelude.{◌≡◌, ◌+◌, ◌^◌, ◌<◌, ◌≤◌, ◌++◌, ◌∷◌, [], length, true, is_some, if◌then◌else◌, IfOk, IfErr, OnErr, IfSome};
 ghost use mathlib.Core.List.{IsPrefix};
 ghost use Rattle.ti_methods.specs.Errors.{IsTransient};
 ghost use Rattle.ti_methods.specs.Classes.{AreAlike, HasRoom, IsDefined, IsPut, RefusesClass, methods_in};

@@ -2,7 +2,7 @@
 
 use crate::error::ClassError;
 use boxcar::Keeps;
-use boxcar::slot::{OnceSlot, SlotRule};
+use boxcar::slot::{OnceSlot, SlotRule, Written};
 use boxcar::table::{Entry, Row};
 use boxcar::tag::{Names, Tag};
 use std::alloc::{AllocError, Global};
@@ -146,17 +146,15 @@ impl<T: Drop, P: Keeps<T>> Slots<T, P> {
         Ok(())
     }
 
-    /// Writes a value. It comes back if there is one already, or its slot was not made.
-    pub(crate) fn set(&self, index: u32, value: T) -> Result<(), T>
+    /// Writes a value, and gives what shows it. The value comes back if there is one already, or its slot was not made.
+    pub(crate) fn set(&self, index: u32, value: T) -> Result<Written<T>, T>
         requires { P.holds self.now index value }
-        ensures { IfErr result (λ v. v ≡ value) }
+        ensures written { IfOk result (λ w. w.value ≡ value) }
+        ensures back { IfErr result (λ v. v ≡ value) }
     {
         let (bucket, slot) = locate(index);
         match self.buckets[bucket].get() {
-            Some(row) => match row[slot].set_written(value) {
-                Ok(_written) => Ok(()),
-                Err(value) => Err(value),
-            },
+            Some(row) => row[slot].set_written(value),
             None => Err(value),
         }
     }

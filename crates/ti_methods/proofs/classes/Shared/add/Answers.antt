@@ -3,8 +3,8 @@ use Rattle.ti_methods.specs.Rules.{word_of}
 use Rattle.ti_methods.proofs.Adding.{adds_moves}
 use Rattle.ti_methods.proofs.classes.Shared.add.Goals as goal
 
-pub compare_exchange-requires : goal.compare_exchange-requires
-compare_exchange-requires c =
+pub compare_exchange-found-requires : goal.compare_exchange-found-requires
+compare_exchange-found-requires c =
     let h = c.self.invariant.0 in
     let offer = c.plain-offer.ensures in
     let pen = c.no_pen-pen.ensures in
