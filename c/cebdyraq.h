@@ -451,9 +451,10 @@ uint32_t cq_detach_thread(cq_thread *thread) CQ_MUST_USE;
  *   CQ_BUSY 215              the list of threads is in use */
 uint32_t cq_meet(cq_env *env) CQ_MUST_USE;
 
-/* Whether threads have been attached, started, ended or been given back, environments have come or gone, or another environment has
- * met threads, since the environment last looked at the list; or its last cq_meet failed. It takes no lock. It is false of a handle
- * that is misused. An environment that was just attached has looked, and has met no thread: it meets once without news. */
+/* Whether threads have been attached, started, ended or been given back, environments have come or gone, another environment has met
+ * threads or asked for other stops, or a stop has begun, was told or has ended, since the environment last looked at the list; or its
+ * last cq_meet failed. It takes no lock. It is false of a handle that is misused. An environment that was just attached has looked, and
+ * has met no thread: it meets once without news. */
 bool cq_has_news(cq_env *env);
 
 /* Lets go of a thread that was given back, so that its memory can be freed, and writes to `gone` whether it did. It does not

@@ -477,16 +477,16 @@ public:
     }
 
     void set_breakpoint(std::uint32_t method, std::uint32_t location) {
-        settle([&] { return cq_set_breakpoint(get(), method, location); });
+        ask([&] { return cq_set_breakpoint(get(), method, location); });
     }
     void clear_breakpoint(std::uint32_t method, std::uint32_t location) {
-        settle([&] { return cq_clear_breakpoint(get(), method, location); });
+        ask([&] { return cq_clear_breakpoint(get(), method, location); });
     }
     void set_stop_notification_mode(bool enabled, std::uint32_t kind, std::uint32_t thread = CQ_ALL_THREADS) {
-        settle([&] { return cq_set_stop_notification_mode(get(), enabled, kind, thread); });
+        ask([&] { return cq_set_stop_notification_mode(get(), enabled, kind, thread); });
     }
     void notify_frame_pop(std::uint32_t thread, std::uint32_t frames) {
-        settle([&] { return cq_notify_frame_pop(get(), thread, frames); });
+        ask([&] { return cq_notify_frame_pop(get(), thread, frames); });
     }
     stop next_stop(time within = forever) {
         stop next{};
@@ -542,6 +542,13 @@ public:
 private:
     friend class service;
     using holder::holder;
+
+    /* Asks for stops, or for fewer. Environments that wait for news go on. */
+    template <class Call>
+    void ask(Call call) {
+        settle(call);
+        cq_wake(signal());
+    }
 
     /* Asks with more room until all is there. */
     template <class Item, class Call, class... Arguments>

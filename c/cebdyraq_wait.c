@@ -41,6 +41,7 @@ enum { FOREVER = -1 };
 /* How long to spin before sleeping, at most. Where it does not pay, one wait of so many spins for a little, to find out anew. */
 enum { SPIN_NS = 20000, PROBE_NS = 2000, WAITS_A_PROBE = 16 };
 static const int64_t NAP_NS = 50000;   /* the longest sleep after CQ_BUSY, since nobody wakes it */
+static const int64_t LONG_NAP_NS = 100000000;  /* the same where CQ_BUSY may also mean that a call is out */
 static const uint32_t COMINGS = (uint32_t)1 << 31;  /* the bit of callers that wait for an event */
 
 /* A caller that waits: it tries a call until the call gives neither CQ_BUSY nor `not_yet`, or the time is over. */
@@ -58,27 +59,40 @@ typedef struct {
     int64_t stuck;    /* since when it comes no further, or -1 */
     uint32_t stuck_by;  /* the code that it has got since then */
     int32_t spin;     /* how long it spins from then on, in nanoseconds */
+    int64_t nap;      /* how long it sleeps after CQ_BUSY, at most */
+    bool naps_longer; /* each nap takes twice as long as the one before, until it is woken */
 } waiter;
 
 /* The thread sanitizer does not see the atomics of the library. A program that has it is told by these what they order: what a
- * thread did before it handed over comes before what an agent does after an answer, and what an agent did before it resumed a
- * thread comes before what the thread does after its return. Without the sanitizer they are NULL. */
+ * thread did before it handed over or reached a stop, and what an agent did before it let a thread go on, comes before what an agent
+ * does after an answer; and the latter before what the thread does after its return. What threads did is noted at `agents`, for whom it
+ * is, and what agents did at `threads`. Without the sanitizer they are NULL. */
 extern void __tsan_acquire(void *at) __attribute__((weak));
 extern void __tsan_release(void *at) __attribute__((weak));
 
-static void tell_before(cq_sleepers *at) {
-    if (__tsan_release) __tsan_release(at);
+static void thread_did(cq_signal *signal) {
+    if (__tsan_release) __tsan_release(&signal->agents);
 }
 
-static void tell_after(cq_sleepers *at) {
-    if (__tsan_acquire) __tsan_acquire(at);
+static void agent_did(cq_signal *signal) {
+    if (__tsan_release) __tsan_release(&signal->threads);
+}
+
+static void thread_follows(cq_signal *signal) {
+    if (__tsan_acquire) __tsan_acquire(&signal->threads);
+}
+
+static void agent_follows(cq_signal *signal) {
+    if (!__tsan_acquire) return;
+    __tsan_acquire(&signal->agents);
+    __tsan_acquire(&signal->threads);
 }
 
 /* A caller that waits among the agents, for news of any thread. */
 static waiter begin(cq_signal *signal, int64_t timeout_ns, uint32_t not_yet) {
     return (waiter){
         .signal = signal, .among = &signal->agents, .bits = FUTEX_BITSET_MATCH_ANY, .timeout = timeout_ns,
-        .not_yet = not_yet, .code = CQ_BUSY, .began = -1, .stuck = -1,
+        .not_yet = not_yet, .code = CQ_BUSY, .began = -1, .stuck = -1, .nap = NAP_NS,
     };
 }
 
@@ -92,9 +106,9 @@ static uint32_t bit_of_own(cq_thread *thread) {
     return bit_of(number);
 }
 
-/* A thread that hands over. */
+/* A thread that hands over, or reaches what it may stop at. */
 static waiter begin_hand_over(cq_signal *signal) {
-    tell_before(&signal->agents);
+    thread_did(signal);
     return begin(signal, FOREVER, CQ_BUSY);
 }
 
@@ -181,10 +195,18 @@ static void sleep_until(waiter *w, int64_t end) {
 
 static void sleep_on(waiter *w, int64_t now) {
     int64_t end = w->timeout < 0 || w->timeout > INT64_MAX - w->began ? FOREVER : w->began + w->timeout;
-    if (w->code == CQ_BUSY && (end < 0 || end > now + NAP_NS)) {
-        end = now + NAP_NS;
+    if (w->code == CQ_BUSY && (end < 0 || end > now + w->nap)) {
+        end = now + w->nap;
     }
     sleep_until(w, end);
+}
+
+/* Reads the news. If they have changed it was woken, and what keeps it busy from now on is a hold, which ends soon. */
+static void see_news(waiter *w) {
+    uint32_t news = __atomic_load_n(&w->among->news, __ATOMIC_SEQ_CST);
+    bool is_woken = news != w->seen;
+    w->nap = is_woken || !w->naps_longer ? NAP_NS : w->nap < LONG_NAP_NS / 2 ? 2 * w->nap : LONG_NAP_NS;
+    w->seen = news;
 }
 
 /* It comes further: the wait is over, the hold of another has ended, or a trace has made a step. */
@@ -236,7 +258,7 @@ static __attribute__((noinline)) bool await(waiter *w) {
         __atomic_fetch_add(&w->among->sleepers, 1, __ATOMIC_SEQ_CST);
         w->counted = true;
     }
-    w->seen = __atomic_load_n(&w->among->news, __ATOMIC_SEQ_CST);
+    see_news(w);
     return true;
 }
 
@@ -290,17 +312,28 @@ static uint32_t handed_over(const waiter *w, cq_thread *thread) {
 
 /* The code of a call by which a thread may go on. */
 static uint32_t goes_on(const waiter *w) {
-    if (w->code == CQ_OK) tell_after(&w->signal->threads);
+    if (w->code == CQ_OK) thread_follows(w->signal);
     return w->code;
 }
 
-/* The code of a call by which a thread may have started or ended, or a thread or an environment come or gone. If so, callers
- * that wait for that go on. */
+/* The code of a call whose answer may be there. */
+static uint32_t answered(const waiter *w) {
+    if (w->code == CQ_OK) agent_follows(w->signal);
+    return w->code;
+}
+
+/* The code of a call that may be news of the list (cq_has_news): a thread has started or ended, a thread or an environment has come
+ * or gone, threads were met, or a thread stops or no longer has to. If so, callers that wait for that go on. */
 static uint32_t came_or_went(const waiter *w) {
     if (w->code == CQ_OK) {
         wake(&w->signal->agents, COMINGS);
     }
     return w->code;
+}
+
+/* The code of a call that writes to `stops` whether a thread has to stop. If it has, environments that wait for a stop go on. */
+static uint32_t may_stop(const waiter *w, const bool *stops) {
+    return w->code == CQ_OK && *stops ? came_or_went(w) : w->code;
 }
 
 /* The service. */
@@ -355,15 +388,15 @@ uint32_t cq_wait_back(cq_thread *thread, cq_signal *signal, int64_t timeout_ns) 
 }
 
 uint32_t cq_wait_reached(cq_thread *thread, cq_signal *signal, uint32_t method, uint32_t location, bool *stops) {
-    waiter w = begin(signal, FOREVER, CQ_BUSY);
+    waiter w = begin_hand_over(signal);
     while (again(&w)) w.code = cq_reached(thread, method, location, stops);
-    return w.code;
+    return may_stop(&w, stops);
 }
 
 uint32_t cq_wait_leaves(cq_thread *thread, cq_signal *signal, uint32_t method, uint32_t location, uint32_t frames, bool *stops) {
-    waiter w = begin(signal, FOREVER, CQ_BUSY);
+    waiter w = begin_hand_over(signal);
     while (again(&w)) w.code = cq_leaves(thread, method, location, frames, stops);
-    return w.code;
+    return may_stop(&w, stops);
 }
 
 /* CQ_BARRED as long as the thread has to stop. */
@@ -401,7 +434,7 @@ uint32_t cq_wait_detach_thread(cq_thread *thread, cq_signal *signal) {
 uint32_t cq_wait_meet(cq_env *env, cq_signal *signal) {
     waiter w = begin(signal, FOREVER, CQ_BUSY);
     while (again(&w)) w.code = cq_meet(env);
-    return w.code;
+    return came_or_went(&w);
 }
 
 uint32_t cq_wait_let_go(cq_env *env, cq_signal *signal, uint32_t thread, bool *gone) {
@@ -446,7 +479,9 @@ uint32_t cq_wait_dispose_environment(cq_env *env, cq_signal *signal) {
 }
 
 uint32_t cq_wait_dispose_environment_within(cq_env *env, cq_signal *signal, int64_t timeout_ns) {
+    agent_did(signal);
     waiter w = begin(signal, timeout_ns, CQ_BUSY);
+    w.naps_longer = true;
     while (again(&w)) w.code = cq_dispose_environment(env);
     if (w.code == CQ_OK) wake(&signal->threads, FUTEX_BITSET_MATCH_ANY);
     return came_or_went(&w);
@@ -469,23 +504,19 @@ uint32_t cq_wait_next_stop(cq_env *env, cq_signal *signal, int64_t timeout_ns, c
     waiter w = begin(signal, timeout_ns, CQ_NONE);
     w.bits = COMINGS;
     while (again(&w)) w.code = cq_next_stop(env, stop);
-    return w.code;
+    came_or_went(&w);
+    return answered(&w);
 }
 
 uint32_t cq_wait_end_stop(cq_env *env, cq_signal *signal, uint32_t thread) {
+    agent_did(signal);
     waiter w = begin(signal, FOREVER, CQ_BUSY);
     while (again(&w)) w.code = cq_end_stop(env, thread);
     if (w.code == CQ_OK) wake(&signal->threads, bit_of(thread));
-    return w.code;
+    return came_or_went(&w);
 }
 
 /* Calls at a thread. */
-
-/* The code of a call whose answer may be there. */
-static uint32_t answered(const waiter *w) {
-    if (w->code == CQ_OK) tell_after(&w->signal->agents);
-    return w->code;
-}
 
 uint32_t cq_wait_collect(cq_env *env, cq_signal *signal, const cq_ticket *ticket, int64_t timeout_ns, cq_answer *answer,
                          cq_frame *frames, size_t room) {
@@ -557,23 +588,28 @@ static uint32_t post(cq_env *env, const thread_call *call, cq_answer *answer, cq
     return CQ_MISUSED;
 }
 
-/* Discards the answers that are there to calls that were cancelled at the thread. */
-static void discard_all(cq_env *env, uint32_t thread) {
+/* Discards the answers that are there to calls that were cancelled at the thread. CQ_BUSY if some may be left. */
+static uint32_t discard_all(cq_env *env, uint32_t thread) {
     bool discarded = true;
-    while (discarded && cq_discard(env, thread, &discarded) == CQ_OK) {
+    uint32_t code = CQ_OK;
+    while (discarded && code == CQ_OK) {
+        code = cq_discard(env, thread, &discarded);
     }
+    return code;
 }
 
-/* One try to post a call. Calls that were cancelled at the thread and are answered take no room in the window any more. */
+/* One try to post a call. Calls that were cancelled at the thread and are answered take no room in the window any more. If the window is
+ * full because some could not be discarded, nobody wakes the caller for the room that they give up: it is CQ_BUSY. */
 static uint32_t post_now(cq_env *env, const thread_call *call, cq_answer *answer, cq_frame *frames, size_t room) {
-    discard_all(env, call->thread);
-    return post(env, call, answer, frames, room);
+    uint32_t discarding = discard_all(env, call->thread);
+    uint32_t code = post(env, call, answer, frames, room);
+    return code == CQ_FULL && discarding == CQ_BUSY ? CQ_BUSY : code;
 }
 
 /* Posts a call once its thread is free, and unless `not_yet` is CQ_BUSY, also once there is room in the window. */
 static waiter posted(cq_env *env, cq_signal *signal, const thread_call *call, int64_t timeout_ns, uint32_t not_yet,
                      cq_answer *answer, cq_frame *frames, size_t room) {
-    if (call->what == RESUME) tell_before(&signal->threads);
+    if (call->what == RESUME) agent_did(signal);
     waiter w = begin(signal, timeout_ns, not_yet);
     w.bits = bit_of(call->thread);
     while (again(&w)) w.code = post_now(env, call, answer, frames, room);
@@ -655,12 +691,12 @@ uint32_t cq_wait_resume_thread(cq_env *env, cq_signal *signal, uint32_t thread, 
 }
 
 uint32_t cq_wait_ensure_resumed(cq_env *env, cq_signal *signal, uint32_t thread, int64_t timeout_ns) {
-    tell_before(&signal->threads);
+    agent_did(signal);
     waiter w = begin(signal, timeout_ns, CQ_WAITING);
     w.bits = bit_of(thread);
     while (again(&w)) {
-        discard_all(env, thread);
-        w.code = cq_ensure_resumed(env, thread);
+        w.code = discard_all(env, thread);
+        if (w.code != CQ_BUSY) w.code = cq_ensure_resumed(env, thread);
     }
     if (w.code == CQ_OK) {
         wake(&signal->threads, bit_of(thread));  /* it may return now */
@@ -715,7 +751,7 @@ static uint32_t gathered(cq_env *env, cq_signal *signal, int64_t timeout_ns, uin
     }
     cq_wake(signal);
     if (code != CQ_OK) return code;
-    tell_after(&signal->agents);
+    agent_follows(signal);
     return cq_gathered(env, count) == CQ_NONE ? CQ_TIMED_OUT : CQ_OK;
 }
 

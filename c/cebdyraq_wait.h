@@ -39,9 +39,14 @@ typedef struct { cq_sleepers threads; cq_sleepers agents; } cq_signal;
 /* Wakes all that sleep. It is two loads if nobody does.
  *
  * The functions below do it by themselves. A program that also uses functions of cebdyraq.h calls it after each that
- * may let another go on: cq_start, cq_poll, cq_native, cq_block, cq_end, cq_resume_thread, cq_attach_thread, cq_detach_thread,
- * cq_attach_environment and cq_dispose_environment, cq_reached, cq_leaves and cq_end_stop, after cq_define_class if environments
- * wait for CQ_CLASS_PREPARE, and after the last cq_gather_step of a trace. */
+ * may let another go on:
+ *
+ *     cq_start, cq_poll, cq_native, cq_block, cq_end, cq_attach_thread, cq_detach_thread, cq_reached, cq_leaves
+ *     cq_resume_thread, cq_ensure_resumed, cq_end_stop, cq_attach_environment, cq_dispose_environment
+ *     cq_gather_step, at the end of a trace
+ *     cq_define_class, if environments wait for CQ_CLASS_PREPARE
+ *     cq_meet, cq_next_stop, cq_set_stop_notification_mode, cq_set_breakpoint, cq_clear_breakpoint and cq_notify_frame_pop, if
+ *     environments wait by cq_wait_any */
 void cq_wake(cq_signal *signal);
 
 /* ------------------------------------------------------------------------------------------------------------------
@@ -144,7 +149,8 @@ uint32_t cq_wait_ensure_resumed(cq_env *env, cq_signal *signal, uint32_t thread,
 uint32_t cq_wait_set_event_notification_mode(cq_env *env, cq_signal *signal, bool enabled, uint32_t kind) CQ_MUST_USE;
 
 /* cq_dispose_environment. An environment that has can_suspend or can_pop_frame waits for each thread at which a call of it is out, until
- * the thread hands over or ends. One that runs and does neither keeps it for ever. CQ_OUT_OF_MEMORY 110, CQ_FULL 216. */
+ * the thread hands over or ends. One that runs and does neither keeps it for ever. It sleeps meanwhile, and looks ten times a second.
+ * CQ_OUT_OF_MEMORY 110, CQ_FULL 216. */
 uint32_t cq_wait_dispose_environment(cq_env *env, cq_signal *signal) CQ_MUST_USE;
 
 /* The same, for at most this time. After CQ_TIMED_OUT 214 the environment stays, as after CQ_BUSY of cq_dispose_environment.
@@ -263,7 +269,7 @@ uint32_t cq_wait_get_thread_list_stack_traces(cq_env *env, cq_signal *signal, co
  * events until there is none: one that is left is no news. After a cq_meet that failed it gives the news until one succeeds. So a
  * program that cannot meet for lack of room or memory waits for calls alone, by cq_wait_collect, before it tries again.
  *
- *   CQ_NONE 303       no answer is there, and threads or environments have come or gone. Nothing is written
+ *   CQ_NONE 303       no answer is there, and the list has news. Nothing is written
  *   CQ_TIMED_OUT 214  the calls are out as before */
 uint32_t cq_wait_any(cq_env *env, cq_signal *signal, const cq_ticket *tickets, size_t count, int64_t timeout_ns,
                      size_t *which, cq_answer *answer, cq_frame *frames, size_t room) CQ_MUST_USE;

@@ -1,6 +1,6 @@
-/* ordered.c: what a thread and an agent may do with memory that is not the library's, under the thread sanitizer.
+/* ordered.c: what threads and agents may do with memory that is not the library's, under the thread sanitizer.
  *
- *     ordered             the agent reads and writes the thread's memory while the thread is suspended
+ *     ordered             agents read and write a thread's memory while it is suspended
  *     ordered race        it also does so while the thread runs, which the sanitizer has to report
  */
 #include "check.h"
@@ -49,11 +49,46 @@ static void look(void) {
     OK(cq_wait_resume_thread(&env, &signal_of_all, 0, -1));
 }
 
+/* One agent leaves something in the memory of a thread that stays blocked, and resumes it. Then another one suspends it and finds that. */
+static cq_thread still;       /* number 1 */
+static cq_env other;
+static atomic_bool is_left;   /* not ordered */
+static uint64_t left_there;
+
+static void *find(void *unused) {
+    while (!atomic_load_explicit(&is_left, memory_order_relaxed)) sched_yield();
+    OK(cq_wait_suspend_thread(&other, &signal_of_all, 1, -1));
+    SAME(left_there, 1);
+    OK(cq_wait_resume_thread(&other, &signal_of_all, 1, -1));
+    return unused;
+}
+
+static void leave_and_find(void) {
+    pthread_t finder;
+    OK(cq_wait_attach_thread(&service, &signal_of_all, (const uint8_t *)"", 0, 5, &still));
+    OK(cq_wait_attach_environment(&service, &signal_of_all, &other));
+    OK(cq_wait_meet(&env, &signal_of_all));
+    OK(cq_wait_meet(&other, &signal_of_all));
+    OK(cq_add_capabilities(&other, CQ_CAN_SUSPEND));
+    OK(cq_wait_start(&still, &signal_of_all, -1));
+    OK(cq_wait_block(&still, &signal_of_all, CQ_PARK));
+    SAME(pthread_create(&finder, NULL, find, NULL), 0);
+    OK(cq_wait_suspend_thread(&env, &signal_of_all, 1, -1));
+    left_there = 1;
+    OK(cq_wait_resume_thread(&env, &signal_of_all, 1, -1));
+    atomic_store_explicit(&is_left, true, memory_order_relaxed);
+    SAME(pthread_join(finder, NULL), 0);
+    OK(cq_wait_back(&still, &signal_of_all, -1));
+    OK(cq_wait_end(&still, &signal_of_all));
+    OK(cq_wait_detach_thread(&still, &signal_of_all));
+    OK(cq_wait_dispose_environment(&other, &signal_of_all));
+}
+
 int main(int words, char **word) {
     pthread_t runtime;
     bool race = words > 1 && strcmp(word[1], "race") == 0;
     uint64_t seen = 0;
-    OK(cq_make(8, 1, 8, CQ_CAN_SUSPEND | CQ_CAN_POP_FRAME, &service));
+    OK(cq_make(8, 2, 8, CQ_CAN_SUSPEND | CQ_CAN_POP_FRAME, &service));
     OK(cq_wait_attach_thread(&service, &signal_of_all, (const uint8_t *)"", 0, 5, &thread));
     OK(cq_wait_attach_environment(&service, &signal_of_all, &env));
     OK(cq_wait_meet(&env, &signal_of_all));
@@ -70,6 +105,7 @@ int main(int words, char **word) {
     SAME(pthread_join(runtime, NULL), 0);
     SAME(counts[1], TIMES);
     CHECK(!race || seen > 0);
+    leave_and_find();
     OK(cq_wait_detach_thread(&thread, &signal_of_all));
     OK(cq_wait_dispose_environment(&env, &signal_of_all));
     OK(cq_free(&service));

@@ -302,6 +302,7 @@ int main(void) {
     crowds();
     suspensions_taken_back();
     environments_disposed_of();
+    news();
     tear_down();
     return 0;
 }

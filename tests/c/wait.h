@@ -42,6 +42,9 @@ void crowds(void);
 /* Suspensions that are taken back. */
 void suspensions_taken_back(void);
 
+/* What wakes environments that wait for news, or for a stop. */
+void news(void);
+
 /* Environments that are disposed of while a call is out. */
 void environments_disposed_of(void);
 

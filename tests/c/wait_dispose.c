@@ -1,7 +1,17 @@
 /* wait_dispose.c: no thread is suspended by an environment that was disposed of. */
+#define _GNU_SOURCE
 #include "wait.h"
 
+#include <sys/resource.h>
+
 static cq_env guest;
+
+/* How often the calling thread has slept. */
+static long sleeps_so_far(void) {
+    struct rusage used;
+    SAME(getrusage(RUSAGE_THREAD, &used), 0);
+    return used.ru_nvcsw;
+}
 
 static uint32_t state_of(cq_env *by) {
     uint32_t state = 0;
@@ -53,6 +63,19 @@ static void waits_for_the_suspension(void) {
     }
 }
 
+/* It sleeps while it waits, and looks now and then alone. */
+static void sleeps_meanwhile(void) {
+    attach_guest(CQ_CAN_SUSPEND);
+    SAME(cq_wait_suspend_thread(&guest, &signal_of_all, 0, 0), CQ_TIMED_OUT);
+    long before = sleeps_so_far();
+    SAME(cq_wait_dispose_environment_within(&guest, &signal_of_all, 500 * MILLISECOND), CQ_TIMED_OUT);
+    CHECK(sleeps_so_far() - before < 50);
+    OK(cq_wait_block(&thread, &signal_of_all, CQ_OBJECT_WAIT));
+    OK(cq_wait_ensure_resumed(&guest, &signal_of_all, 0, 0));
+    OK(cq_wait_dispose_environment(&guest, &signal_of_all));
+    OK(cq_wait_back(&thread, &signal_of_all, 0));
+}
+
 /* One that only reads is disposed of at once. */
 static void a_reader_goes_at_once(void) {
     cq_frame frames[1];
@@ -65,5 +88,6 @@ static void a_reader_goes_at_once(void) {
 void environments_disposed_of(void) {
     stays_while_a_suspension_is_out();
     waits_for_the_suspension();
+    sleeps_meanwhile();
     a_reader_goes_at_once();
 }

@@ -133,8 +133,8 @@ class Environment(Classes):
         self._call("cq_wait_meet", self._signal)
 
     def has_news(self) -> bool:
-        """Says whether others came, went or met threads since it last looked, or its last meeting failed. Meet once before:
-        attaching is a look."""
+        """Says whether others came, went, met threads, stopped or asked for other stops since it last looked, or its last meeting
+        failed. Meet once before: attaching is a look."""
         return bool(self._plain_call("cq_has_news"))
 
     def let_go(self, thread: int) -> bool:
@@ -350,19 +350,24 @@ class Environment(Classes):
 
     # Stops of threads.
 
+    def _ask(self, name: str, *arguments: Any) -> None:
+        """Asks for stops, or for fewer. Environments that wait for news go on."""
+        self._settled(name, *arguments)
+        self._library.cq_wake(self._signal)
+
     def set_breakpoint(self, method: int, location: int) -> None:
-        self._settled("cq_set_breakpoint", method, location)
+        self._ask("cq_set_breakpoint", method, location)
 
     def clear_breakpoint(self, method: int, location: int) -> None:
-        self._settled("cq_clear_breakpoint", method, location)
+        self._ask("cq_clear_breakpoint", method, location)
 
     def set_stop_notification_mode(self, enabled: bool, kind: StopKind, thread: Optional[int] = None) -> None:
         """Whether the environment is told of this kind of stop, at one thread or at all."""
-        self._settled("cq_set_stop_notification_mode", enabled, kind, ALL_THREADS if thread is None else thread)
+        self._ask("cq_set_stop_notification_mode", enabled, kind, ALL_THREADS if thread is None else thread)
 
     def notify_frame_pop(self, thread: int, frames: int) -> None:
         """The frame is the one that is `frames` from the oldest, which is 1."""
-        self._settled("cq_notify_frame_pop", thread, frames)
+        self._ask("cq_notify_frame_pop", thread, frames)
 
     def next_stop(self, timeout: Optional[float] = None) -> Stop:
         """The next stop. The thread stops until `end_stop`."""

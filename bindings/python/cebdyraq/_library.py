@@ -91,6 +91,7 @@ FUNCTIONS: Dict[str, List[Any]] = {
     "cq_wait_attach_environment": [AT, AT],
     "cq_wait_meet": [AT],
     "cq_has_news": [],
+    "cq_wake": [],
     "cq_wait_let_go": [AT, NUMBER, AT],
     "cq_wait_let_go_of_all": [AT],
     "cq_wait_get_all_threads": [AT, AT, SIZE, AT],
@@ -165,7 +166,7 @@ FUNCTIONS: Dict[str, List[Any]] = {
     "cq_get_line_number_table": [NUMBER, AT, AT, SIZE, AT],
 }
 
-WITHOUT_CODE: Dict[str, Any] = {"cq_has_news": BOOL}
+WITHOUT_CODE: Dict[str, Any] = {"cq_has_news": BOOL, "cq_wake": None}
 
 
 def load(path: Optional[Union[str, "os.PathLike[str]"]] = None) -> ctypes.CDLL:

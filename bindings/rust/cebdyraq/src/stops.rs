@@ -59,14 +59,22 @@ fn one_or_all(thread: Option<u32>) -> u32 {
 }
 
 impl Environment {
+    /// Asks for stops, or for fewer. Environments that wait for news go on.
+    fn ask(&mut self, call: impl Fn(*mut sys::cq_env) -> u32) -> Result<(), Error> {
+        settled(|| call(self.at()))?;
+        // SAFETY: it is used by atomic steps alone.
+        unsafe { sys::cq_wake(self.signal.at()) };
+        Ok(())
+    }
+
     /// SetBreakpoint. [`Error::InvalidMethodid`], [`Error::InvalidLocation`], [`Error::Duplicate`].
     pub fn set_breakpoint(&mut self, method: u32, location: u32) -> Result<(), Error> {
-        settled(|| unsafe { sys::cq_set_breakpoint(self.at(), method, location) })
+        self.ask(|env| unsafe { sys::cq_set_breakpoint(env, method, location) })
     }
 
     /// ClearBreakpoint. [`Error::InvalidMethodid`], [`Error::InvalidLocation`], [`Error::NotFound`].
     pub fn clear_breakpoint(&mut self, method: u32, location: u32) -> Result<(), Error> {
-        settled(|| unsafe { sys::cq_clear_breakpoint(self.at(), method, location) })
+        self.ask(|env| unsafe { sys::cq_clear_breakpoint(env, method, location) })
     }
 
     /// SetEventNotificationMode, of a kind of stop, at one thread or at all.
@@ -76,12 +84,13 @@ impl Environment {
         kind: StopKind,
         thread: Option<u32>,
     ) -> Result<(), Error> {
-        settled(|| unsafe { sys::cq_set_stop_notification_mode(self.at(), enabled, kind as u32, one_or_all(thread)) })
+        let thread = one_or_all(thread);
+        self.ask(|env| unsafe { sys::cq_set_stop_notification_mode(env, enabled, kind as u32, thread) })
     }
 
     /// NotifyFramePop, of the frame that is so many from the oldest, which is 1. [`Error::Duplicate`].
     pub fn notify_frame_pop(&mut self, thread: u32, frames: u32) -> Result<(), Error> {
-        settled(|| unsafe { sys::cq_notify_frame_pop(self.at(), thread, frames) })
+        self.ask(|env| unsafe { sys::cq_notify_frame_pop(env, thread, frames) })
     }
 
     /// The next stop. It sleeps until there is one.
