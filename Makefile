@@ -12,7 +12,8 @@
 # `make jvm` carries walks out on a Java VM and compares its answers with the program's lines, and what the library tells of the VM's
 # classes with what JVM TI tells. `make try` runs the program on all
 # examples without proving anything.
-.PHONY: run try test examples cases bench refused stress edits lib capi installed lua serve jdb install uninstall jvm
+# `make model` goes through the schedules of the waiting layer with each fault planted, and through two models of it (tests/model).
+.PHONY: run try test examples cases bench refused stress edits lib capi installed lua serve jdb install uninstall jvm model
 
 CAPI = crates/ti_capi/out/libti_capi.a
 TIBENCH = bench/out/tibench
@@ -75,6 +76,9 @@ capi: lib
 	python3 bindings/python/test.py dist/lib/libcebdyraq.a
 	cd bindings/rust && CEBDYRAQ_LIB_DIR=$(CURDIR)/dist/lib cargo test --offline
 	python3 tests/install/run.py
+
+model: lib
+	python3 tests/model/run.py $(CAPI)
 
 installed: lib
 	python3 tests/install/run.py

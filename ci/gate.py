@@ -4,7 +4,7 @@
 Then, on the programs that `rt ci` has built, each case (`ci/cases.py`) and runs with an allocation refused
 (`ci/refused_memory.py`). Then, over the libraries that `rt ci` has proved, wrong bodies that the prover must refuse
 (`ci/edits.py`), what the compiler must refuse (`ci/must_not_compile.sh`), the C programs, the library as it is installed
-(`tests/install`), and what the pages show (`ci/snippets.py`).
+(`tests/install`), the schedules of the waiting layer (`tests/model`), and what the pages show (`ci/snippets.py`).
 
 `rt ci` leaves `tiwalk` and `tilint` in their crates' `out/` as LLVM builds them, and, where Rattle's own compiler took them, as
 that builds them. By `ci/rt_ci.py` it leaves the static library too. The output of `rt ci` is passed on, but for its last line
@@ -68,7 +68,9 @@ def try_library():
     passed, failed, status = counts_of(sys.executable, "tests/c/run.py", lib.ARCHIVE)
     well, ill, other = counts_of(sys.executable, "tests/install/run.py", "--gate")
     print(f"as it is installed: {well} passed, {ill} failed")
-    return passed + well, failed + ill, status or other
+    right, wrong, found = counts_of(sys.executable, "tests/model/run.py", lib.ARCHIVE, "--gate")
+    print(f"schedules of the waiting layer: {right} passed, {wrong} failed")
+    return passed + well + right, failed + ill + wrong, status or other or found
 
 
 def main():

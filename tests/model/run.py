@@ -1,0 +1,160 @@
+#!/usr/bin/env python3
+"""Goes through the schedules of the waiting layer, `c/cebdyraq_wait.c`.
+
+    run.py ARCHIVE --gate      the scenarios alone
+    run.py ARCHIVE             also with each fault planted (`faults.py`), and the models with theirs, for which it needs spin
+
+There is a line for each search, and a last line with the sums: 'N passed, M failed'. The exit status is 1 if something failed. CC names
+the compiler, otherwise cc. Without one nothing is tried.
+"""
+
+import os
+import pathlib
+import re
+import shutil
+import subprocess
+import sys
+import tempfile
+import time
+
+sys.dont_write_bytecode = True
+
+import faults
+
+HERE = pathlib.Path(__file__).resolve().parent
+C = HERE.parent.parent / "c"
+WAIT = C / "cebdyraq_wait.c"
+SOURCES = [HERE / name for name in ("explore.c", "system.c", "waits.c", "scenarios.c", "calls_at_threads.c", "traces.c", "stops.c", "news.c")]
+OTHERS = [C / "cebdyraq_heap.c", C / "cebdyraq_classes.c"]
+FLAGS = ["-std=gnu11", "-O2", "-Wall", "-Wextra", "-Werror"]
+LONGEST = 600
+
+# The bounds of the gate: preemptions (-p), CQ_BUSY (-b), sleeps that end for no reason (-e), and runs of a scenario (-m).
+BOUNDS = [
+    "-p 1 -m 100000",
+    "-p 2 -m 30000",
+    "-p 1 -b 1 -m 30000",
+    "-b 3 -m 20000",
+    "-p 1 -e 1 -m 20000",
+    "-p 1 -b 1 -m 10000 -n",
+    "-p 1 -b 1 -m 20000 -t 70000",
+    "-p 1 -b 1 -m 20000 -s",
+]
+
+# A fault is looked for by these, up to the first that finds it.
+BOUNDS_OF_FAULTS = ["-m 2000", "-p 1 -m 5000", "-p 1 -b 1 -m 5000", "-p 1 -b 1 -m 5000 -t 70000", "-p 2 -m 20000"]
+
+# The models as they are, and with a fault: then a search ends in a state in which nobody goes on.
+ONE = ["-DN=1", "-DBLOCKS"]
+RIGHT = [("wait.pml", [*ONE]), ("wait.pml", [*ONE, "-DTIMED"]), ("wait.pml", [*ONE, "-DSUSPENDS"]), ("wait.pml", ["-DN=2"]),
+         ("wait.pml", [*ONE, "-DF_SWALLOW", "-DALONE"]), ("cell.pml", []), ("cell.pml", ["-DOTHER"])]
+WRONG = [*(("wait.pml", [*ONE, fault]) for fault in ("-DF_EARLY", "-DF_LATE", "-DF_TRACE", "-DF_SWALLOW")),
+         *(("wait.pml", [*ONE, "-DSUSPENDS", fault]) for fault in ("-DF_BIT", "-DF_END")),
+         ("wait.pml", ["-DN=2", "-DF_ORDER"]),
+         *(("cell.pml", [fault]) for fault in ("-DF_ADD", "-DF_LOAD", "-DF_QUIET", "-DF_CALLED", "-DF_FREE"))]
+
+
+def run(command, **more):
+    return subprocess.run(command, text=True, errors="replace", stdout=subprocess.PIPE, stderr=subprocess.STDOUT, **more)
+
+
+def compiler():
+    return shutil.which(os.environ.get("CC", "cc"))
+
+
+def build(archive, wait, made):
+    """Builds the search over this file in place of cebdyraq_wait.c."""
+    done = run([compiler(), *FLAGS, f"-I{C}", f'-DWAIT_C="{wait}"', *SOURCES, *OTHERS, archive, "-lpthread", "-o", made])
+    if done.returncode:
+        raise SystemExit(done.stdout)
+
+
+def search(program, words):
+    """The lines of a search."""
+    done = run([program, *words.split()], timeout=LONGEST)
+    if done.returncode not in (0, 1):
+        raise SystemExit(f"{words}: status {done.returncode}\n{done.stdout}")
+    return done.stdout.splitlines()
+
+
+def told(what, passed):
+    print(f"{what}: {'passed' if passed else 'FAILED'}", flush=True)
+    return passed
+
+
+def explore(program):
+    """Whether each scenario passed, for each of the bounds."""
+    results = []
+    for words in BOUNDS:
+        began = time.monotonic()
+        lines = search(program, words)
+        wrong = [line for line in lines if ": WRONG: " in line]
+        runs = sum(int(count) for count in re.findall(r": (\d+) runs", "\n".join(lines)))
+        print("\n".join(wrong) + ("\n" if wrong else ""), end="")
+        told(f"{len(lines)} scenarios, {words}: {runs} runs in {time.monotonic() - began:.0f} s", not wrong)
+        results += [": WRONG: " not in line for line in lines]
+    return results
+
+
+def is_found(archive, name, text, folder):
+    """Whether the search finds a fault."""
+    source, made = folder / f"{name}.c", folder / name
+    source.write_text(faults.planted(text, name))
+    build(archive, source, made)
+    found = []
+    for words in BOUNDS_OF_FAULTS:
+        found = found or [line for line in search(made, words + " -f") if ": WRONG: " in line]
+    return told(f"fault {name} is found" + (f" ({found[0]})" if found else ""), bool(found))
+
+
+def model_ends_well(model, defines, folder):
+    """Whether an exhaustive search of a model finds nothing wrong: True, or False for a state in which nobody goes on."""
+    folder = pathlib.Path(tempfile.mkdtemp(dir=folder))
+    for command in (["spin", "-a", *defines, HERE / model], [compiler(), "-O2", "-w", "-DSAFETY", "-DVECTORSZ=2048", "-DCOLLAPSE",
+                                                             "-DMEMLIM=3000", "-o", "pan", "pan.c"]):
+        done = run(command, cwd=folder)
+        if done.returncode:
+            raise SystemExit(done.stdout)
+    said = run(["./pan", "-m2000000"], cwd=folder, timeout=LONGEST).stdout
+    if "pan:1: invalid end state" in said:
+        return False
+    if "errors: 0" in said and "pan:1" not in said and "max search depth too small" not in said and "out of memory" not in said:
+        return True
+    raise SystemExit(f"{model} {defines}:\n{said}")
+
+
+def check_models(folder):
+    if not shutil.which("spin"):
+        print("there is no spin (Debian's package `spin`): the models are not searched")
+        return [False]
+    results = []
+    for model, defines in RIGHT:
+        results.append(told(f"{model} {' '.join(defines)}", model_ends_well(model, defines, folder)))
+    for model, defines in WRONG:
+        results.append(told(f"{model} {' '.join(defines)}: the fault is found", not model_ends_well(model, defines, folder)))
+    return results
+
+
+def main(words):
+    if len(words) not in (2, 3) or words[2:] not in ([], ["--gate"]):
+        print(__doc__)
+        return 2
+    if not compiler():
+        print("there is no C compiler: the schedules of the waiting layer are not tried\n0 passed, 0 failed")
+        return 0
+    archive = pathlib.Path(words[1]).resolve()
+    with tempfile.TemporaryDirectory() as name:
+        folder = pathlib.Path(name)
+        build(archive, WAIT, folder / "explore")
+        results = explore(folder / "explore")
+        if not words[2:]:
+            text = WAIT.read_text()
+            results += [is_found(archive, fault, text, folder) for fault in faults.FAULTS]
+            results += check_models(folder)
+    passed = sum(results)
+    print(f"{passed} passed, {len(results) - passed} failed")
+    return 0 if all(results) else 1
+
+
+if __name__ == "__main__":
+    sys.exit(main(sys.argv))
