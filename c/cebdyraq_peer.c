@@ -13,6 +13,7 @@
 #include <unistd.h>
 
 static const char FOUR[] = "/proc/thread-self/net/tcp", SIX[] = "/proc/thread-self/net/tcp6";
+static const char OVERFLOW_USER[] = "/proc/sys/kernel/overflowuid";
 enum { ESTABLISHED = 1, END_LENGTH = 38, ROW_LENGTH = 512 };
 
 typedef union {
@@ -118,7 +119,18 @@ static bool user_of_peer(int socket, uid_t *user) {
     return getpeername(socket, &peer.any, &peer_size) == 0 && user_at_open_port(&peer, &own, user);
 }
 
+/* The user as whom the system shows all that are not mapped in this user namespace. */
+static uid_t overflow_user(void) {
+    unsigned user = 65534;
+    FILE *file = fopen(OVERFLOW_USER, "re");
+    if (file != NULL) {
+        if (fscanf(file, "%u", &user) != 1) user = 65534;
+        fclose(file);
+    }
+    return (uid_t)user;
+}
+
 bool is_own_peer(int socket) {
     uid_t user = 0;
-    return user_of_peer(socket, &user) && (user == 0 || user == geteuid());
+    return user_of_peer(socket, &user) && user != overflow_user() && (user == 0 || user == geteuid());
 }

@@ -1,15 +1,17 @@
-/* debug_users.c: who may attach: root, and the effective user of the process that listens. Only root can try others. */
+/* debug_users.c: who may attach: root, and the effective user of the process that listens, but for the overflow user. Only root can try
+ * others. */
 #define _GNU_SOURCE
 #include "debugged.h"
 
 #include <netinet/in.h>
+#include <sched.h>
 #include <signal.h>
 #include <sys/socket.h>
 #include <sys/stat.h>
 #include <sys/wait.h>
 #include <unistd.h>
 
-enum { NOBODY = 65534, ANOTHER = 65533, MANY = 50 };
+enum { OVERFLOW = 65534, OWN = 65533, ANOTHER = 65532, MANY = 50 };
 
 typedef bool trying(void);
 
@@ -59,16 +61,9 @@ static bool asks_and_vanishes(void) {
     return false;
 }
 
-/* Tries as a process of this user, and tells what came of it. It is killed then, so that nobody looks for leaks in its copy of the
- * parent's memory. */
-static void try_as(uid_t user, trying *what, int told) {
-    CHECK(seteuid(0) == 0 && setresuid(user, user, user) == 0);
-    char found = what() ? 'y' : 'n';
-    SAME(write(told, &found, 1), 1);
-    kill(getpid(), SIGKILL);
-}
-
-static bool tried_as(uid_t user, trying *what) {
+/* What a process of this user finds, as one letter. It is killed then, so that nobody looks for leaks in its copy of the parent's
+ * memory. */
+static char found_by(uid_t user, char (*look)(trying *what), trying *what) {
     char found = 0;
     int ends[2];
     SAME(pipe(ends), 0);
@@ -76,14 +71,21 @@ static bool tried_as(uid_t user, trying *what) {
     pid_t child = fork();
     CHECK(child >= 0);
     if (child == 0) {
-        try_as(user, what, ends[1]);
+        CHECK(seteuid(0) == 0 && setresuid(user, user, user) == 0);
+        found = look(what);
+        SAME(write(ends[1], &found, 1), 1);
+        kill(getpid(), SIGKILL);
     }
     close(ends[1]);
     SAME(read(ends[0], &found, 1), 1);
     SAME(waitpid(child, NULL, 0), child);
     close(ends[0]);
-    return found == 'y';
+    return found;
 }
+
+static char try_it(trying *what) { return what() ? 'y' : 'n'; }
+
+static bool tried_as(uid_t user, trying *what) { return found_by(user, try_it, what) == 'y'; }
 
 /* Listens at an address for this effective user, and lets others try. */
 static void takes(const char *address, uid_t own, trying *what) {
@@ -91,7 +93,8 @@ static void takes(const char *address, uid_t own, trying *what) {
     SAME(seteuid(own), 0);
     CHECK(tried_as(0, what));
     CHECK(tried_as(own, what));
-    CHECK(!tried_as(own == 0 ? NOBODY : ANOTHER, what));
+    CHECK(!tried_as(ANOTHER, what));
+    CHECK(!tried_as(OVERFLOW, what));
     CHECK(tried_as(own, what));
     SAME(seteuid(0), 0);
     end_debugged();
@@ -101,7 +104,7 @@ static void takes(const char *address, uid_t own, trying *what) {
 static void does_nothing_for_others(void) {
     begin_debugged("127.0.0.1:0");
     unsigned long before = calls_for_worker();
-    tried_as(NOBODY, asks_and_vanishes);
+    tried_as(ANOTHER, asks_and_vanishes);
     CHECK(tried_as(0, dials));
     await_worker();
     SAME(calls_for_worker(), before);
@@ -124,9 +127,38 @@ static void takes_at_a_path(void) {
     begin_debugged(address);
     SAME(chmod(server_path, 0666), 0);
     CHECK(tried_as(0, dials));
-    CHECK(!tried_as(NOBODY, dials));
+    CHECK(!tried_as(ANOTHER, dials));
     CHECK(tried_as(0, dials));
     end_debugged();
+}
+
+/* Listens in a user namespace that maps nobody, so that all users are shown as the overflow user. 's' if there is none. */
+static char listen_unmapped(trying *what) {
+    if (unshare(CLONE_NEWUSER) != 0) return 's';
+    SAME(geteuid(), OVERFLOW);
+    begin_debugged("127.0.0.1:0");
+    char found = try_it(what);
+    end_debugged();
+    return found;
+}
+
+/* The same of a process that runs as the overflow user. */
+static char listen_as_overflow(trying *what) {
+    CHECK(setresuid(OVERFLOW, OVERFLOW, OVERFLOW) == 0);
+    begin_debugged("127.0.0.1:0");
+    char found = try_it(what);
+    end_debugged();
+    return found;
+}
+
+static void takes_no_overflow_user(void) {
+    SAME(found_by(0, listen_as_overflow, dials), 'n');
+    char found = found_by(0, listen_unmapped, dials);
+    if (found == 's') {
+        printf("skipped: no user namespace can be made\n");
+    } else {
+        SAME(found, 'n');
+    }
 }
 
 void takes_own_users(void) {
@@ -135,13 +167,14 @@ void takes_own_users(void) {
         return;
     }
     takes("127.0.0.1:0", 0, dials);
-    takes("127.0.0.1:0", NOBODY, dials);
+    takes("127.0.0.1:0", OWN, dials);
+    takes_no_overflow_user();
     does_nothing_for_others();
     takes_at_a_path();
     if (!has_six()) {
         printf("skipped: there is no IPv6\n");
         return;
     }
-    takes("127.0.0.1:0", NOBODY, dials_four_by_six);
-    takes("[::1]:0", NOBODY, dials_loopback_of_six);
+    takes("127.0.0.1:0", OWN, dials_four_by_six);
+    takes("[::1]:0", OWN, dials_loopback_of_six);
 }
