@@ -5,6 +5,7 @@
 #include "cebdyraq_peer.h"
 
 #include <errno.h>
+#include <fcntl.h>
 #include <netinet/in.h>
 #include <netinet/tcp.h>
 #include <poll.h>
@@ -256,14 +257,33 @@ static uint64_t before_leaving(const server *s, uint64_t until) {
     return until;
 }
 
-/* Sleeps until a socket has something, the thread is woken, or this time has come. */
+/* Lists those that are open. The system polls no more than the process may have open. */
+static nfds_t list_open(const struct pollfd *all, struct pollfd *open) {
+    nfds_t count = 0;
+    for (size_t i = 0; i < ALL; i++) {
+        if (all[i].fd >= 0) {
+            open[count++] = all[i];
+        }
+    }
+    return count;
+}
+
+/* Sleeps until a socket has something, the thread is woken, or this time has come. If the system does not poll, each may have something
+ * after a while. */
 static void rest(struct pollfd *all, uint64_t until) {
+    struct pollfd open[ALL];
+    nfds_t count = list_open(all, open), at = 0;
     uint64_t now = now_ns(), left = until > now ? until - now : 0;
     struct timespec time = { (time_t)(left / 1000000000), (long)(left % 1000000000) };
-    if (ppoll(all, ALL, &time, NULL) <= 0) {
-        for (size_t i = 0; i < ALL; i++) {
-            all[i].revents = 0;
-        }
+    int found = ppoll(open, count, &time, NULL);
+    bool is_refused = found < 0 && errno != EINTR;
+    if (is_refused) {
+        time = (struct timespec){ 0, (long)SOON_NS };
+        nanosleep(&time, NULL);
+    }
+    for (size_t i = 0; i < ALL; i++) {
+        short come = all[i].fd < 0 ? 0 : open[at++].revents;
+        all[i].revents = is_refused ? all[i].events : found > 0 ? come : 0;
     }
 }
 
@@ -471,11 +491,21 @@ static uint32_t close_door(server *s) {
     return code;
 }
 
+/* Whether a connection and a file may be opened beside what is open. If not, errno says why. */
+static bool has_room_for_one(const server *s) {
+    int connection = fcntl(s->waker, F_DUPFD_CLOEXEC, 0), file = fcntl(s->waker, F_DUPFD_CLOEXEC, 0), why = errno;
+    bool has_room = connection >= 0 && file >= 0;
+    close_socket(&file);
+    close_socket(&connection);
+    errno = why;
+    return has_room;
+}
+
 /* Starts the thread, to which no signal of the program's comes. */
 static bool start(server *s) {
     sigset_t all, kept;
     s->waker = eventfd(0, EFD_CLOEXEC | EFD_NONBLOCK);
-    if (s->waker < 0) {
+    if (s->waker < 0 || !has_room_for_one(s)) {
         return false;
     }
     sigfillset(&all);

@@ -46,6 +46,10 @@
  * /proc/net/tcp and /proc/net/tcp6 tell the user; a connection that they do not have is closed. There is no password and no TLS;
  * ssh forwards a port from elsewhere.
  *
+ * In a user namespace the system shows all users that are not mapped there as one, the overflow user (65534, see
+ * /proc/sys/kernel/overflowuid). That user is refused, also where this process runs as it. So root is refused in a namespace that
+ * does not map root, and a process whose own user is not mapped can be debugged by root alone, if root is mapped.
+ *
  * It is for Linux. The doors below, which read requests and answer them, are proved; the loop over sockets is not.
  */
 #ifndef CEBDYRAQ_SERVE_H
@@ -300,7 +304,10 @@ typedef struct { uint64_t opaque[96]; } cq_server;
  *   CQ_ILLEGAL_ARGUMENT 103  there is no such address, or it is not one of this machine's own; `program` is not UTF-8
  *   CQ_OUT_OF_MEMORY 110     there is no memory
  *   CQ_FULL 216              there are as many environments as the limits allow
- *   CQ_SYSTEM 306            the operating system refused a socket, the address or the thread: errno says why */
+ *   CQ_SYSTEM 306            the operating system refused a socket, the address or the thread: errno says why. It is EMFILE if the
+ *                            process may not have four more files open: for the server itself, a connection, and a file of /proc
+ *
+ * If no file may be opened for a further connection, that one waits until another has gone. */
 uint32_t cq_serve(cq_server *server, cq_service *service, cq_signal *signal, const char *address,
                   const char *program) CQ_MUST_USE;
 

@@ -336,6 +336,7 @@ int main(void) {
     refuses_what_is_wrong();
     keeps_its_bounds();
     end_served();
+    serves_with_few_files();
     serves_a_path();
     return 0;
 }

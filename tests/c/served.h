@@ -17,6 +17,9 @@ void end_served(void);
 /* serve_wrong.c: each request that is refused. */
 void refuses_what_is_wrong(void);
 
+/* serve_few.c: a process that may have few files open. */
+void serves_with_few_files(void);
+
 /* serve_many.c: connections and profiles at their bounds. */
 void keeps_its_bounds(void);
 
