@@ -1,8 +1,9 @@
 /* cebdyraq.hpp: cebdyraq.h, cebdyraq_wait.h and cebdyraq_serve.h for C++17, as types that free what they hold.
  *
- * A function does what that of its name does in C, and waits asleep. A code other than CQ_OK is thrown as an `error`. A `time`
- * is in nanoseconds, and `forever` is no deadline. Each object is used by one thread of the operating system at a time. It may
- * be moved, and an object that was moved from may only be destroyed or assigned to.
+ * A function does what that of its name does in C, and waits asleep. A code other than CQ_OK is thrown as an `error`. Without exceptions
+ * (-fno-exceptions) it ends the program, with a line on the standard error. A `time` is in nanoseconds, and `forever` is no deadline.
+ * Each object is used by one thread of the operating system at a time. It may be moved, and an object that was moved from may only be
+ * destroyed or assigned to.
  *
  * Calls that are posted and collected later are not here. They are made in C with the handle that `get` gives. */
 #ifndef CEBDYRAQ_HPP
@@ -15,7 +16,10 @@
 #include <chrono>
 #include <cstddef>
 #include <cstdint>
+#include <cstdio>
+#include <cstdlib>
 #include <memory>
+#include <mutex>
 #include <new>
 #include <optional>
 #include <stdexcept>
@@ -66,7 +70,8 @@ enum class code : std::uint32_t {
     waiting = CQ_WAITING,
     none = CQ_NONE,
     misused = CQ_MISUSED,
-    popped = CQ_POPPED
+    popped = CQ_POPPED,
+    system = CQ_SYSTEM
 };
 
 enum class reason : std::uint32_t {
@@ -94,20 +99,31 @@ private:
     code why_;
 };
 
+/* Throws, or ends the program if it has no exceptions. */
+template <class Error>
+[[noreturn]] void refuse(const Error &why) {
+#ifdef __cpp_exceptions
+    throw why;
+#else
+    std::fprintf(stderr, "%s\n", why.what());
+    std::abort();
+#endif
+}
+
 inline void check(std::uint32_t got) {
-    if (got != CQ_OK) throw error(code(got));
+    if (got != CQ_OK) refuse(error(code(got)));
 }
 
 /* A destructor tells of no refusal. */
 inline void ignore(std::uint32_t) noexcept {}
 
-/* What is told of a thread (GetThreadInfo). */
 /* Where compiled code looks before it polls: somebody calls for the thread while one of these bits of the word is set. */
 struct poll_word {
     const std::uint64_t *word;
     std::uint64_t mask;
 };
 
+/* What is told of a thread (GetThreadInfo). */
 struct thread_info {
     std::string name;
     std::int32_t priority;
@@ -117,6 +133,13 @@ struct thread_info {
 struct stack_info {
     std::uint32_t thread;
     std::uint32_t state;
+    std::vector<frame> frames;
+};
+
+/* What came of a call that was cancelled: its code, and its answer if that is `ok`. */
+struct cancelled_call {
+    code got;
+    cq_answer answer;
     std::vector<frame> frames;
 };
 
@@ -172,10 +195,10 @@ public:
     class_parts(std::string_view signature, std::string_view source_file, const std::vector<method_info> &methods)
         : ranges_{put(signature), put(source_file)}, count_(methods.size()) {
         for (const method_info &method : methods) {
-            cq_range name = put(method.name), signature = put(method.signature);
+            cq_range name = put(method.name), type = put(method.signature);
             cq_range lines{entries_.size(), method.entries.size()};
             entries_.insert(entries_.end(), method.entries.begin(), method.entries.end());
-            methods_.push_back({name, signature, lines, std::uint32_t(method.kind), method.first_line});
+            methods_.push_back({name, type, lines, std::uint32_t(method.kind), method.first_line});
         }
         text_.push_back(0);
         methods_.push_back({});
@@ -201,27 +224,55 @@ private:
     std::size_t count_;
 };
 
-/* A handle, which stays where it is, and the signal of its service. */
+/* What the objects of a service have in common: the signal, and the environments that could not be disposed of when they were destroyed.
+ * These are disposed of once no call of theirs is out any more, with the last of the objects at the latest. */
+class common {
+public:
+    common() { left_.reserve(most_environments); }
+    common(const common &) = delete;
+    common &operator=(const common &) = delete;
+    ~common() { dispose_of_left(); }
+
+    cq_signal *signal() noexcept { return &signal_; }
+    void leave(std::unique_ptr<cq_env> environment) noexcept {
+        std::lock_guard<std::mutex> alone(lock_);
+        left_.push_back(std::move(environment));
+    }
+    void dispose_of_left() noexcept {
+        std::lock_guard<std::mutex> alone(lock_);
+        auto is_gone = [this](const auto &one) { return cq_wait_dispose_environment_within(one.get(), signal(), 0) == CQ_OK; };
+        left_.erase(std::remove_if(left_.begin(), left_.end(), is_gone), left_.end());
+    }
+
+private:
+    static constexpr std::size_t most_environments = 32;  /* of a service at once */
+    cq_signal signal_{};
+    std::mutex lock_;
+    std::vector<std::unique_ptr<cq_env>> left_;
+};
+
+/* A handle, which stays where it is, and what it has in common with the others of its service. */
 template <class Handle>
 class holder {
 public:
     Handle *get() const noexcept { return handle_.get(); }
-    cq_signal *signal() const noexcept { return signal_.get(); }
+    cq_signal *signal() const noexcept { return shared_->signal(); }
 
 protected:
-    explicit holder(std::shared_ptr<cq_signal> signal) : handle_(std::make_unique<Handle>()), signal_(std::move(signal)) {}
+    explicit holder(std::shared_ptr<common> shared) : handle_(std::make_unique<Handle>()), shared_(std::move(shared)) {}
     holder(holder &&) noexcept = default;
     holder &operator=(holder &&other) noexcept {
         std::swap(handle_, other.handle_);
-        std::swap(signal_, other.signal_);
+        std::swap(shared_, other.shared_);
         return *this;
     }
     ~holder() = default;
-    std::shared_ptr<cq_signal> shared_signal() const { return signal_; }
+    std::unique_ptr<Handle> take() noexcept { return std::move(handle_); }
+    std::shared_ptr<common> shared() const { return shared_; }
 
 private:
     std::unique_ptr<Handle> handle_;
-    std::shared_ptr<cq_signal> signal_;
+    std::shared_ptr<common> shared_;
 };
 
 /* A thread of the runtime. When it is destroyed it returns, ends and is given back. So its destructor waits while the thread is
@@ -235,6 +286,7 @@ public:
         ignore(cq_wait_back(get(), signal(), -1));
         ignore(cq_wait_end(get(), signal()));
         ignore(cq_wait_detach_thread(get(), signal()));
+        shared()->dispose_of_left();
     }
 
     std::uint32_t number() const {
@@ -293,17 +345,18 @@ public:
     void stop() { check(cq_wait_stop(get(), signal())); }
 
     /* The thread is in native code, or blocked, as long as this lives. Its destructor returns, and waits while the thread is
-     * suspended. */
+     * suspended. The thread may be moved meanwhile, and is destroyed later. */
     class away {
     public:
         away(const away &) = delete;
         away &operator=(const away &) = delete;
-        ~away() { ignore(cq_wait_back(thread_.get(), thread_.signal(), -1)); }
+        ~away() { ignore(cq_wait_back(handle_, signal_, -1)); }
 
     private:
         friend class thread;
-        explicit away(thread &gone) : thread_(gone) {}
-        thread &thread_;
+        explicit away(const thread &gone) : handle_(gone.get()), signal_(gone.signal()) {}
+        cq_thread *handle_;
+        cq_signal *signal_;
     };
     [[nodiscard]] away native() {
         check(cq_wait_native(get(), signal()));
@@ -319,14 +372,25 @@ private:
     using holder::holder;
 };
 
-/* An agent's environment. When it is destroyed, it is disposed of. A thread that it suspended stays suspended. */
+/* An agent's environment. When it is destroyed, it is disposed of. A thread that it suspended stays suspended.
+ *
+ * A suspension or a pop whose time was over keeps an environment until its thread hands over or ends. The destructor waits for that for a
+ * tenth of a second. Then the environment is left over: it takes its place among those of the service until it can be disposed of. Such a
+ * suspension may yet suspend its thread, so take it back before, by ensure_resumed. */
 class environment : public holder<cq_env> {
 public:
     environment(environment &&) noexcept = default;
     environment &operator=(environment &&) noexcept = default;
     ~environment() {
-        if (get() != nullptr) ignore(cq_wait_dispose_environment(get(), signal()));
+        if (get() == nullptr) return;
+        std::uint32_t got = cq_wait_dispose_environment_within(get(), signal(), destructors_time.count());
+        if (got != CQ_OK && got != CQ_MISUSED) shared()->leave(take());
     }
+
+    /* Disposes of the environment, which can only be destroyed or assigned to then. If it throws, the environment stays. */
+    void dispose_within(time within) { check(cq_wait_dispose_environment_within(get(), signal(), within.count())); }
+    /* The same by another than its user, who is lost: what it gathers is ended first. */
+    void end_environment(time within = forever) { check(cq_wait_end_environment(get(), signal(), within.count())); }
 
     void meet() { check(cq_wait_meet(get(), signal())); }
     bool has_news() const { return cq_has_news(get()); }
@@ -406,6 +470,24 @@ public:
     }
     void resume_thread(std::uint32_t thread, time within = forever) {
         check(cq_wait_resume_thread(get(), signal(), thread, within.count()));
+    }
+
+    /* Takes back what suspensions did to the thread, or would still do, also those whose time was over. */
+    void ensure_resumed(std::uint32_t thread, time within = forever) {
+        check(cq_wait_ensure_resumed(get(), signal(), thread, within.count()));
+    }
+
+    /* What came of the call that was cancelled first at the thread, as a call is whose time was over. None if no such call is out. Of a
+     * trace it gives the newest `max_count` frames. */
+    std::optional<cancelled_call> collect_cancelled(std::uint32_t thread, std::size_t max_count = 0, time within = forever) {
+        std::vector<frame> frames(max_count + 1);
+        cq_answer answer{};
+        std::uint32_t got =
+            cq_wait_collect_cancelled(get(), signal(), thread, within.count(), &answer, frames.data(), max_count);
+        if (got == CQ_NONE) return std::nullopt;
+        if (got == CQ_TIMED_OUT || got == CQ_MISUSED) check(got);
+        frames.resize(got == CQ_OK ? std::size_t(std::min<std::uint64_t>(max_count, answer.number)) : 0);
+        return cancelled_call{code(got), answer, std::move(frames)};
     }
 
     /* A code for each thread of the list. */
@@ -542,6 +624,7 @@ public:
 private:
     friend class service;
     using holder::holder;
+    static constexpr time destructors_time{100000000};
 
     /* Asks for stops, or for fewer. Environments that wait for news go on. */
     template <class Call>
@@ -637,10 +720,10 @@ public:
 private:
     template <class Tell>
     static std::uint32_t code_of(cq_teller *at, Tell tell) noexcept {
+        teller to(at);
+#ifdef __cpp_exceptions
         try {
-            teller to(at);
             tell(to);
-            return CQ_OK;
         } catch (const error &refused) {
             return std::uint32_t(refused.why());
         } catch (const std::bad_alloc &) {
@@ -648,6 +731,10 @@ private:
         } catch (...) {
             return CQ_ABSENT_INFORMATION;
         }
+#else
+        tell(to);
+#endif
+        return CQ_OK;
     }
     static std::uint32_t call_of_method(void *self, std::uint32_t method, cq_teller *at) noexcept {
         return code_of(at, [&](teller &to) { static_cast<variables *>(self)->of_method(method, to); });
@@ -706,10 +793,10 @@ public:
      * (cq_version_fits). */
     service(std::uint32_t depth, std::uint32_t envs, std::uint32_t window,
             std::uint32_t capabilities = CQ_CAN_SUSPEND | CQ_CAN_POP_FRAME)
-        : holder(std::make_shared<cq_signal>()) {
+        : holder(std::make_shared<common>()) {
         if (!cq_version_fits()) {
-            throw std::runtime_error("libcebdyraq has the version " + std::to_string(cq_version()) +
-                                     ", which does not fit the header");
+            refuse(std::runtime_error("libcebdyraq has the version " + std::to_string(cq_version()) +
+                                      ", which does not fit the header"));
         }
         check(cq_make(depth, envs, window, capabilities, get()));
     }
@@ -720,13 +807,13 @@ public:
     }
 
     service share() {
-        service other(shared_signal());
+        service other(shared());
         check(cq_share(get(), other.get()));
         return other;
     }
 
     thread attach_thread(std::string_view name, std::int32_t priority) {
-        thread made(shared_signal());
+        thread made(shared());
         std::vector<std::uint8_t> bytes(name.begin(), name.end());
         bytes.push_back(0);
         check(cq_wait_attach_thread(get(), signal(), bytes.data(), name.size(), priority, made.get()));
@@ -734,7 +821,8 @@ public:
     }
 
     environment attach_environment() {
-        environment made(shared_signal());
+        shared()->dispose_of_left();
+        environment made(shared());
         check(cq_wait_attach_environment(get(), signal(), made.get()));
         return made;
     }
@@ -776,9 +864,9 @@ private:
 
     template <class Begin>
     server served(const std::string &address, Begin begin) {
-        server made(shared_signal());
+        server made(shared());
         std::uint32_t got = begin(made);
-        if (got == CQ_SYSTEM) throw std::system_error(errno, std::generic_category(), address);
+        if (got == CQ_SYSTEM) refuse(std::system_error(errno, std::generic_category(), address));
         check(got);
         return made;
     }

@@ -11,6 +11,7 @@ for each program and mode, and a last line with the sums. The exit status is 1 i
 import os
 import pathlib
 import shutil
+import signal
 import subprocess
 import sys
 import tempfile
@@ -22,6 +23,7 @@ WAIT = [C / "cebdyraq_wait.c"]
 HEAP = [C / "cebdyraq_heap.c"]
 COUNTED_HEAP = [HERE / "counted_heap.c"]
 STRINGS = [C / "cebdyraq_classes.c"]
+VERSION = [C / "cebdyraq_version.c"]
 VARIABLES = [C / "cebdyraq_variables.c"]
 SERVE = [C / name for name in ("cebdyraq_serve.c", "cebdyraq_listen.c", "cebdyraq_peer.c")] + VARIABLES
 MODEL = [HERE / name for name in ("model.c", "model_calls.c", "model_envs.c", "model_traces.c")]
@@ -69,6 +71,7 @@ PROGRAMS = [
     Program("green", ["green.c"], COUNTED_HEAP, {THREAD: ["512"], VALGRIND: ["128"]}),
     Program("meet_on", ["meet_on.c"], COUNTED_HEAP, {VALGRIND: ["1"]}, wait=[]),
     Program("cxx", ["cxx.cpp"], HEAP),
+    Program("objects", ["objects.cpp"], HEAP + VERSION),
     Program("door", ["door.c", "door_random.c"], COUNTED_HEAP, {ADDRESS: ["20000"], THREAD: ["5000"], VALGRIND: ["300"]}, wait=[]),
     Program("serve", SERVED, HEAP + STRINGS + SERVE),
     Program("tells", ["tells.c"], COUNTED_HEAP + VARIABLES, wait=[]),
@@ -198,6 +201,22 @@ def report_ordered(archive):
     return passed
 
 
+def report_without_exceptions(archive):
+    """The header for C++ without exceptions: a call that is refused ends the program. No name in it hides another."""
+    with tempfile.TemporaryDirectory() as name:
+        folder = pathlib.Path(name)
+        parts = [built_plain(source, folder) for source in WAIT + HEAP + VERSION]
+        made = str(folder / "no_exceptions")
+        built = run([compiler(True), *flags(PLAIN), "-std=c++17", "-Wshadow", "-fno-exceptions", str(HERE / "no_exceptions.cpp"), *parts,
+                     str(archive), "-lpthread", "-o", made])
+        right, wrong = (run([made, *words], timeout=LONGEST) for words in ([], ["twice"])) if built.returncode == 0 else (built, built)
+    passed = (right.returncode, right.stdout) == (0, "") and (wrong.returncode, wrong.stdout) == (-signal.SIGABRT, "cebdyraq: code 210\n")
+    print("the header for C++ without exceptions: " + ("passed" if passed else "FAILED"))
+    if not passed:
+        print(right.stdout + wrong.stdout, flush=True)
+    return passed
+
+
 def report_needed(archive):
     names = sorted(needed(archive))
     print("the library needs memory alone: " + ("passed" if not names else "FAILED, it needs " + ", ".join(names)))
@@ -226,6 +245,9 @@ def main(words):
     passed = failed = skipped = 0
     if not words[2:] and shutil.which("nm"):
         passed, failed = (1, 0) if report_needed(archive) else (0, 1)
+    if not words[2:]:
+        aborts = report_without_exceptions(archive)
+        passed, failed = passed + aborts, failed + (not aborts)
     if not words[2:] and is_missing(THREAD) is None:
         ordered = report_ordered(archive)
         passed, failed = passed + ordered, failed + (not ordered)
