@@ -296,7 +296,8 @@ uint32_t cq_attach_thread(cq_service *service, const uint8_t *name, size_t lengt
 uint32_t cq_attach_environment(cq_service *service, cq_env *env) CQ_MUST_USE;
 
 /* ------------------------------------------------------------------------------------------------------------------
- * A thread of the runtime. Its handle is used by the thread itself.
+ * A thread of the runtime. Its handle is used by whoever runs the thread: one thread of the operating system at a time. A runtime that
+ * moves its threads between those hands the handle on with them (see what a caller owes).
  */
 
 /* Writes the thread's number to `number`. */
@@ -379,7 +380,7 @@ bool cq_poll_clear(cq_thread *thread);
  *
  *     if (__atomic_load_n(word, __ATOMIC_RELAXED) & mask) ..
  *
- * The word is read only by the thread itself, which never writes it. It may be read until the thread is given back
+ * The word is read only by whoever runs the thread, and never written. It may be read until the thread is given back
  * (cq_detach_thread), and stays where it is. Nothing is proved of what is found there: the library writes it whenever that
  * changes, in the same hold as it does what cq_poll_clear looks at. A look orders nothing.
  *
@@ -941,10 +942,14 @@ uint32_t cq_get_line_number_table(cq_env *env, uint32_t method, uint32_t *kind, 
  */
 
 /* Whether the thread may have to stop at what it reaches next. It takes no lock. It is false only if no environment was told of any
- * kind of stop when it looked. It may be true though none is: cq_reached tells. False for a handle that is misused. */
+ * kind of stop when it looked. It may be true though none is, as after any thread or environment has come or gone: cq_reached tells.
+ * False for a handle that is misused. */
 bool cq_may_stop(cq_thread *thread);
 
 /* Says that the thread is at this location of this method, and writes to `stops` whether it has to stop there.
+ *
+ * A debugger's step out of a method ends at the first location that its caller reaches. So a runtime that says where each line begins
+ * also says, after a call has returned, where the caller goes on in the middle of a line.
  *
  *   CQ_MISUSED 304        as ever
  *   CQ_OUT_OF_MEMORY 110  there is no memory for a stop. The thread does not stop
@@ -969,7 +974,12 @@ uint32_t cq_is_stopped(cq_thread *thread, bool *stops) CQ_MUST_USE;
  *   CQ_BUSY 215             the list of threads is in use, or the method is just being defined */
 uint32_t cq_set_breakpoint(cq_env *env, uint32_t method, uint32_t location) CQ_MUST_USE;
 
-/* ClearBreakpoint. CQ_NOT_FOUND 41 if the environment has no breakpoint there. The other codes are those of cq_set_breakpoint. */
+/* ClearBreakpoint.
+ *
+ *   CQ_INVALID_METHODID 23  no method of this number was defined
+ *   CQ_INVALID_LOCATION 24  as for cq_set_breakpoint
+ *   CQ_NOT_FOUND 41         the environment has no breakpoint there
+ *   CQ_OUT_OF_MEMORY 110, CQ_FULL 216, CQ_BUSY 215 as for cq_set_breakpoint */
 uint32_t cq_clear_breakpoint(cq_env *env, uint32_t method, uint32_t location) CQ_MUST_USE;
 
 /* SetEventNotificationMode, of CQ_BREAKPOINT, CQ_SINGLE_STEP or CQ_FRAME_POP, at one thread or at CQ_ALL_THREADS. An environment is

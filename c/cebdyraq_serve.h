@@ -28,7 +28,7 @@
  * Whoever reaches the address: the users of this machine at a port, and this user alone at a Unix socket, whose file has the mode
  * 0600. There is no password and no TLS; a proxy adds them. Only GET and HEAD are answered, and nothing of it changes a thread. A
  * Host of another name is refused with 421, and a page of another site with 403. There are 16 connections and two profiles at
- * once at the most; README.md of crates/ti_http has the table of all refusals.
+ * once at the most.
  *
  * WHAT A DEBUGGER MAY DO
  *
@@ -37,7 +37,7 @@
  * breakpoints and steps, where the runtime says what its threads reach (cq_reached). It reads variables of suspended threads, where the
  * runtime tells them (cq_server_variables), and pops frames of them, where the runtime's threads go on without (cq_server_pops_frames).
  * Its suspensions of a thread nest. When it goes, the threads that it has suspended or stopped go on, and those that another environment
- * has suspended stay so. README.md of crates/ti_jdwp and crates/ti_debugger have all requests and errors.
+ * has suspended stay so.
  *
  * WHO MAY DEBUG
  *

@@ -6,12 +6,12 @@
  *
  * CODES
  *
- * Each function has the arguments and the codes of its namesake in cebdyraq.h (cq_wait_poll those of cq_poll), except these:
+ * Each function has the arguments and the codes of its namesake in cebdyraq.h, except these, and what it says itself:
  *
  *   CQ_BUSY 215              is never given. The function tries again
  *   CQ_HELD 301, CQ_WAITING 302, CQ_NONE 303, CQ_BARRED 206, CQ_ALREADY_STOPPED 211, CQ_STILL_RUNNING 213
  *                            are never given. The function waits for what they stand for. (CQ_NONE has a meaning of its own at
- *                            cq_wait_any)
+ *                            cq_wait_any and cq_wait_collect_cancelled)
  *   CQ_FULL 216              is never given by a call at a thread. The function waits for room in the window
  *   CQ_TIMED_OUT 214         the time is over. Only functions with a `timeout_ns` give it
  *
@@ -20,7 +20,8 @@
  * `timeout_ns` is in nanoseconds. 0 is one try, and a negative one is for ever. The time runs from the first try that
  * does not succeed. A time-out comes no earlier than that, and may come later.
  *
- * A handle is used by one call at a time, also while that call waits.
+ * A handle is used by one call at a time, also while that call waits. A caller that waits holds no lock that another needs before it
+ * hands over, resumes, or lets go.
  */
 #ifndef CEBDYRAQ_WAIT_H
 #define CEBDYRAQ_WAIT_H
@@ -64,14 +65,15 @@ uint32_t cq_wait_attach_environment(cq_service *service, cq_signal *signal, cq_e
  * A thread of the runtime.
  */
 
-/* cq_start. It sleeps while a trace has stopped the thread. After CQ_TIMED_OUT 214 the thread has not started.
+/* cq_start. It sleeps while a trace has stopped the thread, which goes on only once all other threads of that trace have handed over:
+ * hold no lock that one of them needs for that. After CQ_TIMED_OUT 214 the thread has not started.
  * CQ_NOT_NEW 210, CQ_FULL 216. */
 uint32_t cq_wait_start(cq_thread *thread, cq_signal *signal, int64_t timeout_ns) CQ_MUST_USE;
 
 /* A safe point. It returns at once if nobody calls for the thread (cq_poll_clear). Otherwise the thread polls, and sleeps while
  * it is suspended or stopped. With CQ_OK it runs on, perhaps with fewer frames (cq_take_pops).
  *
- * It is also CQ_OK for a thread that does not run and for a handle that is misused: nobody calls for those. */
+ * CQ_OK is its only code. It is also that of a thread that does not run and of a handle that is misused: nobody calls for those. */
 uint32_t cq_wait_poll(cq_thread *thread, cq_signal *signal) CQ_MUST_USE;
 
 /* cq_native. It waits only while an environment uses the thread. CQ_NOT_RUNNING 204, CQ_NO_NATIVE_FRAME 207,
@@ -136,7 +138,7 @@ uint32_t cq_wait_cancel(cq_env *env, cq_signal *signal, const cq_ticket *ticket)
 uint32_t cq_wait_discard(cq_env *env, cq_signal *signal, uint32_t thread, bool *discarded);
 
 /* cq_collect_cancelled. It sleeps until the answer is there. With CQ_TIMED_OUT 214 it is not, and the call is out as before.
- * CQ_NONE 303. */
+ * CQ_NONE 303: no call that was cancelled is out at the thread. */
 uint32_t cq_wait_collect_cancelled(cq_env *env, cq_signal *signal, uint32_t thread, int64_t timeout_ns, cq_answer *answer,
                                    cq_frame *frames, size_t room) CQ_MUST_USE;
 
