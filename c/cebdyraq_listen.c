@@ -5,6 +5,7 @@
 
 #include <errno.h>
 #include <netinet/in.h>
+#include <stdbool.h>
 #include <stdlib.h>
 #include <string.h>
 #include <sys/socket.h>
@@ -91,6 +92,21 @@ static bool bind_to(int socket, const address *at, socklen_t length) {
     return fchmod(socket, 0600) == 0 && bind(socket, &at->any, length) == 0 && chmod(at->unix_path.sun_path, 0600) == 0;
 }
 
+static void note_file(listener *made, const char *path) {
+    struct stat file;
+    if (lstat(path, &file) == 0) {
+        memcpy(made->path, path, sizeof made->path);
+        made->device = file.st_dev;
+        made->file = file.st_ino;
+    }
+}
+
+/* Whether the file at the path is still this listener's. No other has its number while the socket is open. */
+static bool has_its_file(const listener *of) {
+    struct stat file;
+    return of->path[0] && lstat(of->path, &file) == 0 && file.st_dev == of->device && file.st_ino == of->file;
+}
+
 /* Listens at an address, and notes the port or the path. */
 static bool listen_at(listener *made, const address *at, socklen_t length) {
     address bound;
@@ -100,7 +116,7 @@ static bool listen_at(listener *made, const address *at, socklen_t length) {
         return false;
     }
     if (at->any.sa_family == AF_UNIX) {
-        memcpy(made->path, at->unix_path.sun_path, sizeof made->path);
+        note_file(made, at->unix_path.sun_path);
     }
     if (listen(made->socket, BACKLOG) || getsockname(made->socket, &bound.any, &size)) {
         return false;
@@ -120,9 +136,9 @@ uint32_t open_listener(listener *made, const char *where) {
 }
 
 void close_listener(listener *of) {
-    close_socket(&of->socket);
-    if (of->path[0]) {
+    if (has_its_file(of)) {
         unlink(of->path);
     }
+    close_socket(&of->socket);
     of->path[0] = 0;
 }

@@ -23,6 +23,16 @@ static const uint64_t NEVER = UINT64_MAX;
 static const uint64_t NAP_NS = 50000;          /* between two tries of what another uses */
 static const uint64_t SOON_NS = 1000000;       /* after a tick the door is due within it if there may be more to do */
 static const uint64_t REFUSED_NS = 100000000;  /* before connections are taken in again after the system refused one */
+static const uint64_t PERIOD_NS = 10000000000;  /* within which a peer takes LEAST_TAKEN bytes, or all that there is */
+static const uint64_t LEAST_TAKEN = 65536;
+static const uint64_t PATIENCE_NS = 1000000000;  /* how long a peer may keep the server from writing before it gives way */
+
+/* How a peer takes what is written to it. */
+typedef struct {
+    uint64_t kept_since;  /* since when there was always something to be written, or NEVER */
+    uint64_t period;      /* when the period began */
+    uint64_t taken;       /* how many bytes it has taken within the period */
+} pace;
 
 /* What lies in a cq_server. */
 typedef struct __attribute__((may_alias)) {
@@ -34,8 +44,9 @@ typedef struct __attribute__((may_alias)) {
     int sockets[CQ_DOOR_CONNECTIONS];            /* by connection, or -1; the thread alone changes them, with the lock */
     int leaving[CQ_DOOR_CONNECTIONS];            /* sockets of connections that ended, whose peers may still send */
     uint64_t leaving_since[CQ_DOOR_CONNECTIONS];
-    uint32_t actions[CQ_DOOR_CONNECTIONS];       /* what is to be done with each */
+    uint8_t actions[CQ_DOOR_CONNECTIONS];        /* what is to be done with each */
     uint64_t rooms[CQ_DOOR_CONNECTIONS];
+    pace *paces;                                 /* of each, while the thread runs */
     uint64_t resumptions;                        /* by the door, for which threads were woken */
     pthread_mutex_t lock;                        /* of what others than the thread use: the sockets, and down to is_ending */
     pthread_cond_t news;                         /* one of these has changed */
@@ -144,24 +155,32 @@ static bool write_some(server *s, uint32_t connection) {
         return false;
     }
     cq_door_written(&s->door, connection, (uint64_t)taken, now_ns());
+    s->paces[connection].taken += (uint64_t)taken;
     s->greets_by = NEVER;
     return true;
+}
+
+/* Asks the door what is to be done with a connection. */
+static uint32_t next_action(server *s, uint32_t connection) {
+    uint32_t action = CQ_DOOR_WAIT;
+    if (cq_door_next(&s->door, connection, now_ns(), clock_ns(CLOCK_REALTIME), &action, &s->rooms[connection]) != CQ_OK) {
+        action = CQ_DOOR_WAIT;
+    }
+    s->actions[connection] = (uint8_t)action;
+    return action;
 }
 
 /* Does what the door wants of a connection, as far as the socket lets it. Returns whether it has written, answered or left. */
 static bool go_on(server *s, uint32_t connection) {
     bool moved = false;
     while (s->sockets[connection] >= 0) {
-        uint32_t *action = &s->actions[connection];
-        if (cq_door_next(&s->door, connection, now_ns(), clock_ns(CLOCK_REALTIME), action, &s->rooms[connection]) != CQ_OK) {
-            *action = CQ_DOOR_WAIT;
-        }
-        if (*action == CQ_DOOR_CLOSE) {
+        uint32_t action = next_action(s, connection);
+        if (action == CQ_DOOR_CLOSE) {
             leave(s, connection, now_ns());
             return true;
         }
-        bool is_done = *action == CQ_DOOR_ASK ? cq_door_answer(&s->door, &s->variables) == CQ_OK
-                                              : *action == CQ_DOOR_WRITE && write_some(s, connection);
+        bool is_done = action == CQ_DOOR_ASK ? cq_door_answer(&s->door, &s->variables) == CQ_OK
+                                             : action == CQ_DOOR_WRITE && write_some(s, connection);
         if (!is_done) {
             break;
         }
@@ -184,6 +203,71 @@ static void read_some(server *s, uint32_t connection) {
                              || taken < (uint64_t)count)) {
         drop(s, connection);
     }
+}
+
+/* Goes on with each connection. Returns whether one has written, answered or left. */
+static bool go_on_with_all(server *s) {
+    bool moved = false;
+    for (uint32_t i = 0; i < CQ_DOOR_CONNECTIONS; i++) {
+        moved = go_on(s, i) || moved;
+    }
+    return moved;
+}
+
+/* Closes a connection whose peer takes too little of what is written to it. A debugger may rest. */
+static void note_pace(server *s, uint32_t connection, uint64_t now) {
+    pace *of = &s->paces[connection];
+    if (s->is_for_debuggers || s->sockets[connection] < 0 || s->actions[connection] != CQ_DOOR_WRITE) {
+        of->kept_since = NEVER;
+    } else if (of->kept_since == NEVER) {
+        *of = (pace){ now, now, 0 };
+    } else if (now - of->period >= PERIOD_NS && of->taken < LEAST_TAKEN) {
+        drop(s, connection);
+        of->kept_since = NEVER;
+    } else if (now - of->period >= PERIOD_NS) {
+        of->period = now;
+        of->taken = 0;
+    }
+}
+
+/* Closes the connection whose peer has kept the server from writing longest, if one has for a while. Returns whether it did. */
+static bool drop_slowest(server *s, uint64_t now) {
+    uint32_t slowest = 0;
+    for (uint32_t i = 1; i < CQ_DOOR_CONNECTIONS; i++) {
+        slowest = s->paces[i].kept_since < s->paces[slowest].kept_since ? i : slowest;
+    }
+    bool gives_way = s->paces[slowest].kept_since != NEVER && now - s->paces[slowest].kept_since >= PATIENCE_NS;
+    if (gives_way) {
+        drop(s, slowest);
+        s->paces[slowest].kept_since = NEVER;
+    }
+    return gives_way;
+}
+
+/* Drops a debugger that has closed its end, whatever it has sent before. Returns whether it did. */
+static bool drop_one_that_has_gone(server *s) {
+    struct pollfd at = { s->sockets[0], POLLRDHUP, 0 };
+    bool has_gone = poll(&at, 1, 0) == 1 && at.revents;
+    if (has_gone) {
+        drop(s, 0);
+    }
+    return has_gone;
+}
+
+static bool connects(server *s, uint32_t *connection) {
+    return cq_door_connect(&s->door, now_ns(), connection) == CQ_OK;
+}
+
+/* A place for a newcomer. Without one the door has a connection that is idle leave, or another gives way. */
+static bool find_place(server *s, uint32_t *connection) {
+    if (connects(s, connection)) {
+        return true;
+    }
+    if (s->is_for_debuggers) {
+        return drop_one_that_has_gone(s) && connects(s, connection);
+    }
+    go_on_with_all(s);
+    return connects(s, connection) || (drop_slowest(s, now_ns()) && connects(s, connection));
 }
 
 /* Whether a peer may have what the door has. */
@@ -211,7 +295,7 @@ static void drop_silent(server *s) {
  * further debugger is closed at once. */
 static bool take_in(server *s) {
     uint32_t connection = 0;
-    bool has_place = cq_door_connect(&s->door, now_ns(), &connection) == CQ_OK;
+    bool has_place = find_place(s, &connection);
     if (!has_place && !s->is_for_debuggers) {
         return false;
     }
@@ -247,12 +331,16 @@ static void list_sockets(const server *s, bool takes, struct pollfd *all) {
     }
 }
 
-/* When the next leaving peer is sent away, or a debugger that does not greet, if that is before `until`. */
+static uint64_t earlier(uint64_t one, uint64_t other) {
+    return one < other ? one : other;
+}
+
+/* When the next leaving peer is sent away, or a debugger that does not greet, or a peer's period ends, if that is before `until`. */
 static uint64_t before_leaving(const server *s, uint64_t until) {
-    until = s->greets_by < until ? s->greets_by : until;
+    until = earlier(until, s->greets_by);
     for (size_t i = 0; i < CQ_DOOR_CONNECTIONS; i++) {
-        uint64_t end = s->leaving_since[i] + LINGER_NS;
-        until = s->leaving[i] >= 0 && end < until ? end : until;
+        until = s->leaving[i] >= 0 ? earlier(until, s->leaving_since[i] + LINGER_NS) : until;
+        until = s->paces[i].kept_since != NEVER ? earlier(until, s->paces[i].period + PERIOD_NS) : until;
     }
     return until;
 }
@@ -305,12 +393,12 @@ static bool serve_all(server *s, const struct pollfd *all) {
     return moved;
 }
 
-/* Writes the answers that a tick has given. Returns whether there were some: a request behind one of them may now have been taken
- * up, and be due at once. */
+/* Writes the answers that a tick has given, and looks how their peers take them. Returns whether there were some: a request behind one of
+ * them may now have been taken up, and be due at once. */
 static bool write_all(server *s) {
-    bool moved = false;
+    bool moved = go_on_with_all(s);
     for (uint32_t i = 0; i < CQ_DOOR_CONNECTIONS; i++) {
-        moved = go_on(s, i) || moved;
+        note_pace(s, i, now_ns());
     }
     return moved;
 }
@@ -414,9 +502,14 @@ static uint64_t next_pass(server *s, telling *t, uint64_t deadline) {
 static void *run(void *arg) {
     server *s = arg;
     struct pollfd all[ALL];
+    pace paces[CQ_DOOR_CONNECTIONS];
     telling classes = { 0 };
     uint64_t refused = 0;
     bool takes = true;
+    for (size_t i = 0; i < CQ_DOOR_CONNECTIONS; i++) {
+        paces[i] = (pace){ NEVER, 0, 0 };
+    }
+    s->paces = paces;
     list_sockets(s, takes, all);
     while (take_orders(s, all[WAKER].revents & POLLIN, &classes)) {
         bool moved = serve_all(s, all), is_refused = takes && all[LISTENER].revents && !take_in(s);

@@ -28,7 +28,8 @@
  * Whoever reaches the address: the users of this machine at a port, and this user alone at a Unix socket, whose file has the mode
  * 0600. There is no password and no TLS; a proxy adds them. Only GET and HEAD are answered, and nothing of it changes a thread. A
  * Host of another name is refused with 421, and a page of another site with 403. There are 16 connections and two profiles at
- * once at the most.
+ * once at the most. An answer is to be taken by 64 KB in each 10 s, or its connection is closed. A newcomer that finds no place takes
+ * that of a connection that is idle, or of the one whose peer has been slow longest, and for a second.
  *
  * WHAT A DEBUGGER MAY DO
  *

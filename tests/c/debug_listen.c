@@ -305,6 +305,16 @@ static void serves_beside_it(void) {
     OK(cq_serve_end(&http));
 }
 
+/* A debugger that has sent a part of a packet, and closes, gives its place up to one that comes at once. */
+static void gives_the_place_up(void) {
+    for (int i = 0; i < 100; i++) {
+        int first = attached();
+        SAME(send(first, "\0\0\0\13\0\0", 6, MSG_NOSIGNAL), 6);
+        close(first);
+        close(attached());
+    }
+}
+
 static void listens_at_a_path(void) {
     static char address[80];
     struct stat file;
@@ -325,6 +335,7 @@ int main(void) {
     has_one_debugger();
     closes_what_is_no_debugger();
     closes_one_that_does_not_greet();
+    gives_the_place_up();
     suspends_and_resumes();
     outlives_a_debugger();
     refuses_addresses();

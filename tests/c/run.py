@@ -73,7 +73,7 @@ PROGRAMS = [
     Program("cxx", ["cxx.cpp"], HEAP),
     Program("objects", ["objects.cpp"], HEAP + VERSION),
     Program("door", ["door.c", "door_random.c"], COUNTED_HEAP, {ADDRESS: ["20000"], THREAD: ["5000"], VALGRIND: ["300"]}, wait=[]),
-    Program("serve", SERVED, HEAP + STRINGS + SERVE),
+    Program("serve", SERVED, HEAP + STRINGS + SERVE, {VALGRIND: ["quick"]}),
     Program("tells", ["tells.c"], COUNTED_HEAP + VARIABLES, wait=[]),
     Program("debugger", DEBUGGER, COUNTED_HEAP + STRINGS + VARIABLES, {THREAD: ["5000"], VALGRIND: ["300"]}, wait=[]),
     Program("debug_listen", DEBUGGED, HEAP + STRINGS + SERVE),

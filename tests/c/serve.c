@@ -296,6 +296,25 @@ static void serves_a_path(void) {
     }
 }
 
+/* The file was removed, and another server listens at the path. It keeps its own file when the first one ends. */
+static void leaves_the_path_to_a_successor(void) {
+    static char address[80];
+    cq_server successor = { 0 };
+    answer got;
+    snprintf(address, sizeof address, "unix:/tmp/cebdyraq-%d-next.sock", (int)getpid());
+    server_path = address + 5;
+    begin_served(address);
+    SAME(unlink(server_path), 0);
+    OK(cq_serve(&successor, &service, &all_signal, address, "serve test"));
+    OK(cq_serve_end(&server));
+    get(&successor, "/", &got);
+    SAME(got.status, 200);
+    forget(&got);
+    OK(cq_serve_end(&successor));
+    CHECK(access(server_path, F_OK) != 0);
+    end_served();
+}
+
 static void refuses_addresses(void) {
     static const char *const wrong[] = { "", "6060", "127.0.0.1", "127.0.0.1:", "127.0.0.1:65536", "127.0.0.1:6060x", "0.0.0.0:0",
                                          "192.168.0.1:0", "localhost:-1", "[::1]", "unix:", "unix:/no/such/folder/at/all" };
@@ -323,7 +342,9 @@ static void refuses_addresses(void) {
     OK(cq_wait_dispose_environment(&envs[0], &all_signal));
 }
 
-int main(void) {
+/* With a word it leaves slow readers out: under valgrind their answers take minutes. */
+int main(int words, char **unused) {
+    (void)unused;
     begin_served("127.0.0.1:0");
     await_threads();
     shows_what_there_is();
@@ -335,8 +356,10 @@ int main(void) {
     refuses_addresses();
     refuses_what_is_wrong();
     keeps_its_bounds();
+    if (words == 1) closes_slow_readers();
     end_served();
     serves_with_few_files();
     serves_a_path();
+    leaves_the_path_to_a_successor();
     return 0;
 }

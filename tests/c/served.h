@@ -20,7 +20,8 @@ void refuses_what_is_wrong(void);
 /* serve_few.c: a process that may have few files open. */
 void serves_with_few_files(void);
 
-/* serve_many.c: connections and profiles at their bounds. */
+/* serve_many.c: connections and profiles at their bounds, and readers for whom the system keeps megabytes of answers. */
 void keeps_its_bounds(void);
+void closes_slow_readers(void);
 
 #endif
