@@ -596,8 +596,9 @@ uint32_t cq_collect(cq_env *env, const cq_ticket *ticket, cq_answer *answer, cq_
  *   CQ_BUSY 215           the thread itself or another environment uses the thread */
 uint32_t cq_cancel(cq_env *env, const cq_ticket *ticket);
 
-/* Discards the answer to the call that was cancelled first at the thread, and writes to `discarded` whether it did. It does not
- * if that answer is not there yet, or no call was cancelled.
+/* Discards the answer to the call that the environment cancelled first at the thread, and writes to `discarded` whether it did. It
+ * does not if that answer is not there yet, or no call was cancelled. Answers to calls of an environment of the same number that was
+ * disposed of are discarded before it, and told to nobody.
  *
  *   CQ_BUSY 215  the thread itself or another environment uses the thread */
 uint32_t cq_discard(cq_env *env, uint32_t thread, bool *discarded);
@@ -607,15 +608,15 @@ uint32_t cq_discard(cq_env *env, uint32_t thread, bool *discarded);
  * whose time was over has taken place after all.
  *
  *   CQ_WAITING 302  the answer is not there yet. Nothing is written
- *   CQ_NONE 303     no call that was cancelled is out at the thread. Nothing is written
+ *   CQ_NONE 303     no call that the environment cancelled is out at the thread. Nothing is written
  *   CQ_BUSY 215     the thread itself or another environment uses the thread */
 uint32_t cq_collect_cancelled(cq_env *env, uint32_t thread, cq_answer *answer, cq_frame *frames, size_t room) CQ_MUST_USE;
 
 /* Takes back what the environment's suspensions did to a thread, and what cancelled ones would still do to it: for a
  * suspension whose time was over, after which cq_resume_thread gives CQ_THREAD_NOT_SUSPENDED at once. It needs CQ_CAN_SUSPEND.
  *
- * It discards one answer at the thread, as cq_discard does. If no cancelled call there is out then, it resumes the
- * thread, which costs one call. With CQ_OK the thread is not suspended, whether it was before or not. A suspension belongs to the
+ * It discards the answers that are there at the thread, as cq_discard does. If no call that the environment cancelled there is out
+ * then, it resumes the thread, which costs one call. With CQ_OK the thread is not suspended, whether it was before or not. A suspension belongs to the
  * thread, so this may end one that another environment made.
  *
  *   CQ_WAITING 302                 a cancelled call is out, and may yet suspend the thread: call again once the thread has
@@ -624,7 +625,7 @@ uint32_t cq_collect_cancelled(cq_env *env, uint32_t thread, cq_answer *answer, c
  *   CQ_INVALID_THREAD 10           the environment has not met the thread
  *   CQ_CALLS_SPENT 209             no call is left at the thread
  *   CQ_THREAD_NOT_ALIVE 15         the thread has not started, or has ended, or was let go of
- *   CQ_BUSY 215                    the thread itself or another environment uses the thread. An answer may have been discarded */
+ *   CQ_BUSY 215                    the thread itself or another environment uses the thread. Answers may have been discarded */
 uint32_t cq_ensure_resumed(cq_env *env, uint32_t thread) CQ_MUST_USE;
 
 /* Writes to `count` how many calls of the environment are out at the thread, also cancelled ones: 0 to the service's
@@ -756,8 +757,9 @@ uint32_t cq_next_event(cq_env *env, cq_event *event) CQ_MUST_USE;
 
 /* DisposeEnvironment. The environment's words are 0 again, another may be attached, and its handle is empty. What its traces have
  * gathered is gone. A thread that it suspended stays suspended. No thread is suspended and no frame is popped by it any more:
- * while it has can_suspend or can_pop_frame, it is not disposed of before all its calls have taken place. The calls of any other
- * environment only read: those that are out are cancelled.
+ * if it has can_suspend or can_pop_frame, or had them and gave them up, it is not disposed of before all its calls have taken place.
+ * The calls of any other environment only read: those that are out are cancelled. The next environment of its number is told nothing of
+ * them. Until the thread has answered them they take room of its window, so their number is given last.
  *
  * With one of these codes the environment stays. With CQ_BUSY because of a call that is out, nothing has changed but that its calls
  * are cancelled: take a suspension back by cq_ensure_resumed, or call again once the thread has handed over or ended. In the
@@ -765,7 +767,7 @@ uint32_t cq_next_event(cq_env *env, cq_event *event) CQ_MUST_USE;
  *
  *   CQ_OUT_OF_MEMORY 110  there is no memory to cancel a call
  *   CQ_FULL 216           threads and environments have come and gone 2^62 - 1 times
- *   CQ_BUSY 215           the environment has one of these capabilities, and a call of it is out at a thread that runs and has
+ *   CQ_BUSY 215           the environment has or had one of these capabilities, and a call of it is out at a thread that runs and has
  *                         not handed over since; or a thread or the list of threads is in use */
 uint32_t cq_dispose_environment(cq_env *env) CQ_MUST_USE;
 

@@ -150,8 +150,9 @@ uint32_t cq_wait_ensure_resumed(cq_env *env, cq_signal *signal, uint32_t thread,
 /* cq_set_event_notification_mode. CQ_ILLEGAL_ARGUMENT 103. */
 uint32_t cq_wait_set_event_notification_mode(cq_env *env, cq_signal *signal, bool enabled, uint32_t kind) CQ_MUST_USE;
 
-/* cq_dispose_environment. An environment that has can_suspend or can_pop_frame waits for each thread at which a call of it is out, until
- * the thread hands over or ends. One that runs and does neither keeps it for ever. It sleeps meanwhile, and looks ten times a second.
+/* cq_dispose_environment. An environment that has or had can_suspend or can_pop_frame waits for each thread at which a call of it is
+ * out, until the thread hands over or ends. One that runs and does neither keeps it for ever. It sleeps meanwhile, and looks ten times a
+ * second.
  * CQ_OUT_OF_MEMORY 110, CQ_FULL 216. */
 uint32_t cq_wait_dispose_environment(cq_env *env, cq_signal *signal) CQ_MUST_USE;
 
