@@ -1,5 +1,5 @@
 -- What a session does next.
-use Rattle.std.specs.Prelude.{◌≡◌, ℕ, ◌+◌, ◌%◌, ◌^◌, ◌<◌, Bool, true, false, List, [], ◌∷◌, ◌++◌, length, ◌⊎◌, not, ◌&&◌, Option, Some, None, Result, Ok, Err, ℤ, ◌==◌, if◌then◌else◌}
+use Rattle.std.specs.Prelude.{◌≡◌, ℕ, ◌+◌, ◌%◌, ◌^◌, ◌<◌, ◌≤◌, Bool, true, false, List, [], ◌∷◌, ◌++◌, length, ◌⊎◌, not, ◌&&◌, Option, Some, None, Result, Ok, Err, ℤ, ◌==◌, if◌then◌else◌}
 use Rattle.std.specs.Int.{w32, cast_unsigned}
 use Rattle.ti_jdwp.specs.declared.actions.Action.{Action}
 use Rattle.ti_jdwp.specs.declared.actions.Action.TheVariants as action
@@ -52,13 +52,13 @@ EndsBy action.Write old new = AreAllFree old.holds × (is_unsent old ≡ true) �
 EndsBy action.Close old new = AreAllFree old.holds × (is_unsent old ≡ false) × (new ≡ record old { phase = phase.Closed })
 EndsBy _ old new = ⊥
 
--- A thread is suspended once more. The service is asked at a count of 0 alone. Where there is no memory, no count changes.
+-- A thread is suspended once more. The service is asked at a count of 0 alone. The greatest count stays.
 abbrev pub SuspendsBy : Purpose → ℕ → Talk → Action → Talk → Type 0
 SuspendsBy p t old (action.Suspend u) new = (u ≡ t) × (count_of old.holds t ≡ 0) × (new ≡ record old { phase = phase.Suspending p t })
 SuspendsBy p t old action.Again new =
     (new ≡ record old { phase = phase.Stopping p; holds = new.holds; short = new.short })
     × (0 < count_of old.holds t)
-    × ((Suspends old.holds t holder.Debugger new.holds × (new.short ≡ old.short)) ⊎ ((new.holds ≡ old.holds) × (new.short ≡ true)))
+    × ((Suspends old.holds t holder.Debugger new.holds × (new.short ≡ old.short)) ⊎ ((new.holds ≡ old.holds) × (new.short ≡ true) × (2147483647 ≤ count_of old.holds t)))
 SuspendsBy p t old _ new = ⊥
 
 -- The next thread of the list is suspended. After all of them the suspensions are to stand.

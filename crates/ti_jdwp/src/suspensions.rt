@@ -94,6 +94,7 @@ impl Suspensions {
         ensures ok { OnOk result (Suspends self.old thread holder self.new) }
         ensures err { OnErr result (self.new ≡ self.old) }
         ensures memory { IfErr result (λ e. e ≡ OutOfMemory) }
+        ensures free { OnErr result ((count_of self.old thread ≡ 0) ⊎ (2147483647 ≤ count_of self.old thread)) }
     {
         let count = self.count(thread);
         if count >= MAX_COUNT {
@@ -162,6 +163,6 @@ impl Suspensions {
     }
 }
 
-ghost use Rattle.std.specs.Prelude.{◌≡◌, ◌==◌, [], IfOk, IfErr, IfSome, IfNone, OnOk, OnErr};
+ghost use Rattle.std.specs.Prelude.{◌≡◌, ◌≤◌, ◌==◌, ◌⊎◌, [], IfOk, IfErr, IfSome, IfNone, OnOk, OnErr};
 ghost use Rattle.ti_jdwp.specs.Holds.{hold_of, held_of, held_threads, count_of, is_own, Suspends, Resumes, LetsGo, AreAllFree};
 ghost use Rattle.ti_jdwp.specs.declared.error.JdwpError.TheVariants.{OutOfMemory};
