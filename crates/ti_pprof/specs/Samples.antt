@@ -1,10 +1,11 @@
 -- The samples that were counted.
 use Rattle.std.specs.Prelude.{ℕ, ◌≡◌, ◌<◌, ◌≤◌, ◌+◌, ◌⊎◌, List, [], ◌∷◌, ◌++◌, Some, get_or, length, slice_get, slice_set}
 use Rattle.ti_pprof.specs.declared.stacks.Frame.{Frame}
+use Rattle.ti_pprof.specs.declared.stacks.Node.{Node}
 use Rattle.ti_pprof.specs.declared.stacks.Trie.{Trie}
 use Rattle.ti_pprof.specs.declared.table.Row.{Row}
 use Rattle.ti_pprof.specs.declared.table.Table.{Table}
-use Rattle.ti_pprof.specs.Stacks.{stack_at, stacks_of}
+use Rattle.ti_pprof.specs.Stacks.{stack_at, stacks_of, HasStack}
 
 -- a stack of a thread in a state, its newest frame first, and how often it was seen
 pub record Sample : Type 0 where
@@ -48,6 +49,10 @@ IsCounted old new frames thread state times =
 -- there are as many nodes, or as many rows, as there may be
 abbrev pub IsFull : Trie → Table → Type 0
 IsFull trie table = (length trie.nodes.keys ≡ trie.most) ⊎ (length table.rows.keys ≡ table.most)
+
+-- there are as many nodes as there may be, and none of them had the stack; or there are as many rows
+abbrev pub HasNoRoom : List Node → List Frame → Trie → Table → Type 0
+HasNoRoom old frames trie table = ((length trie.nodes.keys ≡ trie.most) × ¬ (HasStack old frames)) ⊎ (length table.rows.keys ≡ table.most)
 
 -- as many nodes and as many rows may be there as before
 abbrev pub SameBounds : Trie → Table → Trie → Table → Type 0

@@ -48,6 +48,7 @@ impl Counts {
         ensures counted { OnTrue result (IsCounted (samples_of self.old.trie self.old.table) (samples_of self.new.trie self.new.table) frames.now thread state times) }
         ensures kept { OnFalse result (samples_of self.new.trie self.new.table ≡ samples_of self.old.trie self.old.table) }
         ensures full { OnFalse result (IsFull self.new.trie self.new.table) }
+        ensures missing { OnFalse result (HasNoRoom self.old.trie.nodes.keys frames.now self.new.trie self.new.table) }
         ensures absent { OnFalse result (¬ (IsThere (samples_of self.old.trie self.old.table) frames.now thread state)) }
         ensures no_room { self.new.no_room ≡ self.old.no_room + (if result then 0 else times) }
         ensures total { self.new.total ≡ self.old.total + times }
@@ -130,4 +131,4 @@ ghost use Rattle.std.specs.Prelude.{◌≡◌, ◌≤◌, ◌<◌, ◌+◌, ◌^
 ghost use Rattle.std.specs.Bool.{OnTrue, OnFalse};
 ghost use Rattle.ti_pprof.specs.Stacks.{AreAsked, Grows, stack_at, stacks_of};
 ghost use Rattle.std.specs.List.{sum_by};
-ghost use Rattle.ti_pprof.specs.Samples.{AreNumbered, IsCounted, IsFull, IsThere, SameBounds, Sample, samples_of};
+ghost use Rattle.ti_pprof.specs.Samples.{AreNumbered, HasNoRoom, IsCounted, IsFull, IsThere, SameBounds, Sample, samples_of};
