@@ -256,8 +256,8 @@ typedef struct {
  * function is called. */
 uint32_t cq_door_answer(cq_door *door, const cq_variables *variables) CQ_MUST_USE;
 
-/* Tells a variable of a method, which is visible at the locations from `first` to `first` + `count` - 1. If a name is not UTF-8, the
- * debugger is told 101.
+/* Tells a variable of a method, which is visible at the locations from `first` to `first` + `count` - 1. A count above 2^31 - 1 is told as
+ * that: debuggers take it for a signed number. If a name is not UTF-8, the debugger is told 101.
  *
  * An answer has at most 4,096 variables, or values and entries, and 1 MiB of names or texts. A name or a text that has not enough room
  * left is cut. It ends with "..." then, as far as there is room for that.

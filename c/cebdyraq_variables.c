@@ -58,9 +58,9 @@ static uint32_t add_value(cq_teller *t, uint32_t slot, uint32_t kind, uint64_t b
 }
 
 uint32_t cq_tell_variable(cq_teller *t, const uint8_t *name, size_t length, uint32_t slot, uint32_t first, uint32_t count) {
-    uint32_t code = refusal(t, CQ_QUESTION_VARIABLES);
+    uint32_t code = refusal(t, CQ_QUESTION_VARIABLES), told = count < INT32_MAX ? count : INT32_MAX;
     if (code == CQ_OK) {
-        t->items.variables[t->count++] = (cq_variable){ slot, first, count, (uint32_t)add_text(t, name, length) };
+        t->items.variables[t->count++] = (cq_variable){ slot, first, told, (uint32_t)add_text(t, name, length) };
     }
     return code;
 }

@@ -159,7 +159,7 @@ static void tells_variables(void) {
     answers(OF_METHOD, tell_two);
     SAME(at_door.count, 2);
     check_variable(0, 2, 10, 4, 3);
-    check_variable(1, 0, 0, UINT32_MAX, 5);
+    check_variable(1, 0, 0, INT32_MAX, 5);
     CHECK(!strcmp((const char *)at_door.texts, "sumh\xc3\xbcte"));
     answers(OF_METHOD, tell_nothing);
     SAME(at_door.count + at_door.length, 0);
