@@ -63,7 +63,7 @@ static void waits_for_the_suspension(void) {
     }
 }
 
-/* It sleeps while it waits, and looks now and then alone. */
+/* It sleeps while it waits, and only looks now and then. */
 static void sleeps_meanwhile(void) {
     attach_guest(CQ_CAN_SUSPEND);
     SAME(cq_wait_suspend_thread(&guest, &signal_of_all, 0, 0), CQ_TIMED_OUT);
