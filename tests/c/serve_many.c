@@ -87,7 +87,7 @@ static void slow_readers_give_way(void) {
     for (size_t i = 0; i < CQ_DOOR_CONNECTIONS; i++) sockets[i] = dial_slowly();
     int newcomer = dial(&server);
     say(newcomer, "GET / HTTP/1.1\r\n" HOST);
-    for (int i = 0; i < 60 && !has_come(newcomer); i++) read_slowly(sockets, CQ_DOOR_CONNECTIONS);
+    for (int i = 0; i < 300 && !has_come(newcomer); i++) read_slowly(sockets, CQ_DOOR_CONNECTIONS);
     CHECK(has_come(newcomer));
     hear(newcomer, &got, false);
     SAME(got.status, 200);
@@ -113,7 +113,7 @@ static void too_slow_a_reader_is_closed(void) {
     int slow = dial_slowly();
     usleep(200000);
     int before = open_files();
-    for (int i = 0; i < 160 && open_files() == before; i++) {
+    for (int i = 0; i < 600 && open_files() == before; i++) {
         MAYBE(recv(slow, &byte, 1, MSG_DONTWAIT));
         usleep(100000);
     }
