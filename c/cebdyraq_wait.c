@@ -694,10 +694,7 @@ uint32_t cq_wait_ensure_resumed(cq_env *env, cq_signal *signal, uint32_t thread,
     agent_did(signal);
     waiter w = begin(signal, timeout_ns, CQ_WAITING);
     w.bits = bit_of(thread);
-    while (again(&w)) {
-        w.code = discard_all(env, thread);
-        if (w.code != CQ_BUSY) w.code = cq_ensure_resumed(env, thread);
-    }
+    while (again(&w)) w.code = cq_ensure_resumed(env, thread);
     if (w.code == CQ_OK) {
         wake(&signal->threads, bit_of(thread));  /* it may return now */
     }

@@ -50,8 +50,6 @@ FAULTS = {
     "held_wakes_nobody": [("(w->code == CQ_OK || w->code == CQ_HELD)", "(w->code == CQ_OK)")],
     # CQ_BUSY that is not passed on.
     "full_though_not_discarded": [("return code == CQ_FULL && discarding == CQ_BUSY ? CQ_BUSY : code;", "(void)discarding;\n    return code;")],
-    "resumed_though_not_discarded": [("        if (w.code != CQ_BUSY) w.code = cq_ensure_resumed(env, thread);",
-                                      "        w.code = cq_ensure_resumed(env, thread);")],
 }
 
 
