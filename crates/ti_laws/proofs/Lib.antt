@@ -1,0 +1,6 @@
+mod Numbers
+mod ConcernLaws
+mod AgreementLaws
+mod PostingAlike
+mod RunLaws
+mod StopShareLaws

@@ -1,0 +1,4 @@
+pub mod Concerns
+pub mod Agreement
+pub mod Runs
+pub mod StopShares
