@@ -616,8 +616,8 @@ uint32_t cq_collect_cancelled(cq_env *env, uint32_t thread, cq_answer *answer, c
  * suspension whose time was over, after which cq_resume_thread gives CQ_THREAD_NOT_SUSPENDED at once. It needs CQ_CAN_SUSPEND.
  *
  * It discards the answers that are there at the thread, as cq_discard does. If no call that the environment cancelled there is out
- * then, it resumes the thread, which costs one call. With CQ_OK the thread is not suspended, whether it was before or not. A suspension belongs to the
- * thread, so this may end one that another environment made.
+ * then, it resumes the thread, which costs one call. With CQ_OK the thread is not suspended, whether it was before or not. A suspension
+ * belongs to the thread, so this may end one that another environment made.
  *
  *   CQ_WAITING 302                 a cancelled call is out, and may yet suspend the thread: call again once the thread has
  *                                  handed over

@@ -256,8 +256,8 @@ typedef struct {
  * function is called. */
 uint32_t cq_door_answer(cq_door *door, const cq_variables *variables) CQ_MUST_USE;
 
-/* Tells a variable of a method, which is visible at the locations from `first` to `first` + `count` - 1. A count above 2^31 - 1 is told as
- * that: debuggers take it for a signed number. If a name is not UTF-8, the debugger is told 101.
+/* Tells a variable of a method, which is visible at the locations from `first` to `first` + `count` - 1. A count above 2^31 - 1 is told
+ * as that: debuggers take it for a signed number. If a name is not UTF-8, the debugger is told 101.
  *
  * An answer has at most 4,096 variables, or values and entries, and 1 MiB of names or texts. A name or a text that has not enough room
  * left is cut. It ends with "..." then, as far as there is room for that.
@@ -280,8 +280,8 @@ uint32_t cq_tell_table(cq_teller *teller, uint32_t slot);
  * entry; nothing changes. */
 uint32_t cq_tell_entry(cq_teller *teller, const uint8_t *text, size_t length);
 
-/* Writes to `count` how many times the door has resumed a thread or let one go on that had stopped, 0 at a door for HTTP. A program whose threads sleep by
- * cebdyraq_wait.h calls cq_wake when it has grown, after cq_door_next, cq_door_disconnect and cq_door_tick. */
+/* Writes to `count` how many times the door has resumed a thread or let one go on that had stopped, 0 at a door for HTTP. A program
+ * whose threads sleep by cebdyraq_wait.h calls cq_wake when it has grown, after cq_door_next, cq_door_disconnect and cq_door_tick. */
 uint32_t cq_door_resumptions(cq_door *door, uint64_t *count) CQ_MUST_USE;
 
 /* Closes the door, and disposes of its environment. The codes are those of cq_dispose_environment. With another than CQ_OK call
