@@ -106,7 +106,7 @@ static inline bool cq_version_fits(void) {
  */
 
 /* The codes. */
-enum {
+enum cq_code {
     CQ_OK = 0,                        /* it is done, or the answer is there */
     /* JVM TI 11's errors. */
     CQ_INVALID_THREAD = 10,           /* there is no thread of this number, or the environment has not met it */
@@ -140,7 +140,7 @@ enum {
     CQ_NOT_NEW = 210,                 /* a start of a thread that has started */
     CQ_ALREADY_STOPPED = 211,         /* another environment's trace has stopped the thread: call again later */
     CQ_STILL_RUNNING = 213,           /* a thread of the trace has not come to its next poll: call again later */
-    CQ_TIMED_OUT = 214,               /* cebdyraq_wait.h alone: the time is over */
+    CQ_TIMED_OUT = 214,               /* the time is over */
     CQ_BUSY = 215,                    /* another thread uses it at this moment: call again */
     CQ_FULL = 216,                    /* a bound other than memory leaves no room for it: the window, `envs`, the 65,536
                                          threads that an environment may have met, or a count that no process reaches */
@@ -149,12 +149,13 @@ enum {
     CQ_NONE = 303,                    /* there is no event to be told, or no trace */
     CQ_MISUSED = 304,                 /* the handle is empty, of another kind, or full when an empty one is wanted. Or the
                                          environment gathers a trace, or has none to go on with */
-    CQ_POPPED = 305                   /* all frames are to be set, and frames were popped that the runtime has not taken note
+    CQ_POPPED = 305,                  /* all frames are to be set, and frames were popped that the runtime has not taken note
                                          of (cq_take_pops) */
+    CQ_SYSTEM = 306                   /* the operating system refused; errno says why */
 };
 
 /* Bits of GetThreadState (JVM TI 11). */
-enum {
+enum cq_state {
     CQ_STATE_ALIVE = 0x1,
     CQ_STATE_TERMINATED = 0x2,
     CQ_STATE_RUNNABLE = 0x4,
@@ -170,10 +171,10 @@ enum {
 };
 
 /* Capabilities, as a sum of bits (jvmtiCapabilities; the bits are this service's). */
-enum { CQ_CAN_SUSPEND = 1, CQ_CAN_POP_FRAME = 2 };
+enum cq_capability { CQ_CAN_SUSPEND = 1, CQ_CAN_POP_FRAME = 2 };
 
 /* Why a thread blocks. */
-enum {
+enum cq_reason {
     CQ_MONITOR_ENTER = 0,
     CQ_OBJECT_WAIT = 1,
     CQ_TIMED_WAIT = 2,
@@ -183,7 +184,7 @@ enum {
 };
 
 /* Events of a thread's life. */
-enum {
+enum cq_event_kind {
     CQ_THREAD_START = 0,
     CQ_THREAD_END = 1,
     CQ_CLASS_PREPARE = 2,
@@ -191,12 +192,14 @@ enum {
     CQ_THREAD_DETACHED = 4
 };
 
-/* Kinds of stops, and a number that stands for all threads. */
-enum { CQ_BREAKPOINT = 0, CQ_SINGLE_STEP = 1, CQ_FRAME_POP = 2 };
+/* Kinds of stops. */
+enum cq_stop_kind { CQ_BREAKPOINT = 0, CQ_SINGLE_STEP = 1, CQ_FRAME_POP = 2 };
+
+/* A number that stands for all threads. */
 #define CQ_ALL_THREADS UINT32_MAX
 
 /* Why a thread stops, as a sum of bits. */
-enum { CQ_STOP_BREAKPOINT = 1, CQ_STOP_SINGLE_STEP = 2, CQ_STOP_FRAME_POP = 4 };
+enum cq_stop_reason { CQ_STOP_BREAKPOINT = 1, CQ_STOP_SINGLE_STEP = 2, CQ_STOP_FRAME_POP = 4 };
 
 /* Handles. Zeros at first, and then for this library alone. */
 typedef struct { uint32_t kind; void *at; } cq_service;
@@ -384,7 +387,9 @@ bool cq_poll_clear(cq_thread *thread);
  * (cq_detach_thread), and stays where it is. Nothing is proved of what is found there: the library writes it whenever that
  * changes, in the same hold as it does what cq_poll_clear looks at. A look orders nothing.
  *
- *   CQ_NOT_RUNNING 204  the thread does not run. Nothing is written */
+ *   CQ_NOT_RUNNING 204  the thread does not run. Nothing is written
+ *
+ * Since 2.1. */
 uint32_t cq_poll_word(cq_thread *thread, const uint64_t **word, uint64_t *mask) CQ_MUST_USE;
 
 /* Polls. If nobody calls for the thread, nothing happens. Otherwise the thread hands its frames over, and the calls that wait
@@ -460,12 +465,12 @@ bool cq_has_news(cq_env *env);
 
 /* Lets go of a thread that was given back, so that its memory can be freed, and writes to `gone` whether it did. It does not
  * while the thread is there or a call is out at it, and not if it was let go of before, by a meeting too. The environment's word at
- * the thread is gone then, and a call there is CQ_THREAD_NOT_ALIVE 15. What traces have gathered stays.
+ * the thread is gone then, and a call there is CQ_THREAD_NOT_ALIVE. What traces have gathered stays.
  *
  *   CQ_BUSY 215  the list of threads is in use */
 uint32_t cq_let_go(cq_env *env, uint32_t thread, bool *gone);
 
-/* cq_let_go of each thread that the environment has met. With CQ_BUSY it has let go of some of them.
+/* cq_let_go of each thread that the environment has met. With CQ_BUSY it has let go of some of them. Since 2.1.
  *
  *   CQ_BUSY 215  the list of threads is in use */
 uint32_t cq_let_go_of_all(cq_env *env);
@@ -527,11 +532,13 @@ uint32_t cq_get_thread_state(cq_env *env, uint32_t thread, cq_answer *answer) CQ
 
 /* GetFrameCount. Writes the number of frames, 0 to the service's depth, to `answer->number`.
  *
+ *   CQ_WAITING 302          the thread runs, and the call is posted
  *   CQ_THREAD_NOT_ALIVE 15  the thread has not started, or has ended */
 uint32_t cq_get_frame_count(cq_env *env, uint32_t thread, cq_answer *answer) CQ_MUST_USE;
 
 /* GetFrameLocation. Writes the frame at a depth, 0 for the newest one, to `answer->frame`.
  *
+ *   CQ_WAITING 302          the thread runs, and the call is posted
  *   CQ_THREAD_NOT_ALIVE 15  the thread has not started, or has ended
  *   CQ_NO_MORE_FRAMES 31    there is no frame at this depth */
 uint32_t cq_get_frame_location(cq_env *env, uint32_t thread, int32_t depth, cq_answer *answer) CQ_MUST_USE;
@@ -540,6 +547,7 @@ uint32_t cq_get_frame_location(cq_env *env, uint32_t thread, int32_t depth, cq_a
  * the oldest frame, which is -1. Writes as many frames as there is `room` for, and to `answer->number` how many it found. With
  * CQ_WAITING no frame is written: cq_collect gets room of its own.
  *
+ *   CQ_WAITING 302           the thread runs, and the call is posted
  *   CQ_THREAD_NOT_ALIVE 15   the thread has not started, or has ended
  *   CQ_ILLEGAL_ARGUMENT 103  there is no frame at `start`, unless `start` is 0 and the stack is empty */
 uint32_t cq_get_stack_trace(cq_env *env, uint32_t thread, int32_t start, int32_t max_count, cq_answer *answer,
@@ -548,6 +556,7 @@ uint32_t cq_get_stack_trace(cq_env *env, uint32_t thread, int32_t start, int32_t
 /* SuspendThread, with CQ_CAN_SUSPEND. The thread stays at its next poll, and does not return from native code or a block, until
  * it is resumed. Suspensions do not nest, and any environment may end one.
  *
+ *   CQ_WAITING 302          the thread runs, and the call is posted
  *   CQ_THREAD_NOT_ALIVE 15  the thread has not started, or has ended
  *   CQ_THREAD_SUSPENDED 14  the thread is suspended */
 uint32_t cq_suspend_thread(cq_env *env, uint32_t thread, cq_answer *answer) CQ_MUST_USE;
@@ -562,6 +571,7 @@ uint32_t cq_resume_thread(cq_env *env, uint32_t thread, cq_answer *answer) CQ_MU
 /* PopFrame, with CQ_CAN_POP_FRAME. The newest frame goes, and its caller is the newest one, at the location where it was. The
  * runtime is told when the thread runs again (cq_take_pops).
  *
+ *   CQ_WAITING 302              the thread runs, and the call is posted
  *   CQ_THREAD_NOT_ALIVE 15      the thread has not started, or has ended
  *   CQ_THREAD_NOT_SUSPENDED 13  the thread is not suspended
  *   CQ_NO_MORE_FRAMES 31        there are fewer than two frames
@@ -605,7 +615,7 @@ uint32_t cq_discard(cq_env *env, uint32_t thread, bool *discarded);
 
 /* Discards the same answer, and tells it. It writes the call's ticket to `answer->ticket`, returns the code of the call, and
  * writes what the call itself would have written, with the frames that there is `room` for. So a caller learns whether a call
- * whose time was over has taken place after all.
+ * whose time was over has taken place after all. Since 2.2.
  *
  *   CQ_WAITING 302  the answer is not there yet. Nothing is written
  *   CQ_NONE 303     no call that the environment cancelled is out at the thread. Nothing is written
@@ -794,7 +804,7 @@ uint32_t cq_dispose_environment(cq_env *env) CQ_MUST_USE;
  */
 
 /* What is known of a method's lines. */
-enum {
+enum cq_lines_kind {
     CQ_LINES_ABSENT = 0,     /* nothing */
     CQ_LINES_LOCATIONS = 1,  /* a location is its line */
     CQ_LINES_TABLE = 2,      /* there is a table */
@@ -855,8 +865,8 @@ uint32_t cq_define_class(cq_service *service, const uint8_t *text, size_t text_l
                          const cq_method_ranges *methods, size_t count, const cq_line_entry *entries, size_t entry_count,
                          uint32_t *class_no, uint32_t *first_method) CQ_MUST_USE;
 
-/* Defines a class of strings that end with a 0, by cq_define_class, whose codes these are. It takes memory to bring them
- * together, and gives it back. `source_file` may be NULL, and so may be `methods` if `count` is 0. */
+/* Defines a class of strings that end with a 0, by cq_define_class. It takes memory to bring them together, and gives
+ * it back. `source_file` may be NULL, and so may be `methods` if `count` is 0. The codes are those of cq_define_class. */
 uint32_t cq_define_class_strings(cq_service *service, const char *signature, const char *source_file,
                                  const cq_method_strings *methods, size_t count, uint32_t *class_no,
                                  uint32_t *first_method) CQ_MUST_USE;

@@ -62,9 +62,6 @@
 extern "C" {
 #endif
 
-/* The operating system refused; errno says why. */
-enum { CQ_SYSTEM = 306 };
-
 /* ------------------------------------------------------------------------------------------------------------------
  * The door: requests in, answers out. It has no socket, no clock and no thread, so a program may have its own loop around it. There
  * are doors for HTTP (cq_open_door) and doors for debuggers (cq_open_debugger). The latter have one connection, whose number is 0.
@@ -72,12 +69,15 @@ enum { CQ_SYSTEM = 306 };
  * Times are nanoseconds of a clock that never goes back, such as CLOCK_MONOTONIC. A handle is zeros at first, and is used by one
  * thread at a time. No function waits. Each gives CQ_MISUSED 304, and changes nothing, if the handle is empty.
  */
+
+/* A handle of a door. Zeros at first. */
 typedef struct { uint32_t kind; void *at; } cq_door;
 
+/* How many connections a door for HTTP has at most. */
 enum { CQ_DOOR_CONNECTIONS = 16 };
 
 /* What is to be done with a connection's socket. */
-enum {
+enum cq_door_action {
     CQ_DOOR_WAIT = 0,   /* nothing, until the socket gives more, or the next tick */
     CQ_DOOR_WRITE = 1,  /* write what cq_door_output gives, and tell how much it took by cq_door_written */
     CQ_DOOR_CLOSE = 2,  /* close it, and tell that by cq_door_disconnect */
@@ -144,7 +144,7 @@ uint32_t cq_door_tick(cq_door *door, uint64_t now, uint64_t *deadline) CQ_MUST_U
  * The thread that is asked about was suspended, and had the frame, when the question was opened. The debugger resumes it only after the
  * answer, but another environment may resume it before. So the runtime sees to it that the frames stay as they are while it reads them
  * (cq_variables), or answers by 13. */
-enum {
+enum cq_question_kind {
     CQ_QUESTION_NONE = 0,      /* nothing */
     CQ_QUESTION_VARIABLES = 1, /* the names and the scopes of all variables of `method` */
     CQ_QUESTION_VALUES = 2     /* the values of all variables of the frame at `depth` of `thread`; 0 is the newest frame */
@@ -167,7 +167,7 @@ typedef struct {
 } cq_variable;
 
 /* What a value is, and what its bits are. */
-enum {
+enum cq_value_kind {
     CQ_VALUE_NIL = 0,      /* 0 */
     CQ_VALUE_BOOLEAN = 1,  /* 0 or 1 */
     CQ_VALUE_INTEGER = 2,  /* 64 bits, in two's complement */
@@ -273,7 +273,7 @@ uint32_t cq_tell_integer(cq_teller *teller, uint32_t slot, int64_t value);
 uint32_t cq_tell_number(cq_teller *teller, uint32_t slot, double value);
 uint32_t cq_tell_text(cq_teller *teller, uint32_t slot, const uint8_t *text, size_t length);
 
-/* Tells a table that has no entries yet, with the same codes. */
+/* Tells a table that has no entries yet. The codes are those of cq_tell_nil. */
 uint32_t cq_tell_table(cq_teller *teller, uint32_t slot);
 
 /* Tells an entry of the table, such as "key = value". CQ_FULL 216: likewise. CQ_MISUSED 304: what was told last is neither a table nor an

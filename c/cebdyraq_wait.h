@@ -120,7 +120,7 @@ uint32_t cq_wait_meet(cq_env *env, cq_signal *signal) CQ_MUST_USE;
 /* cq_let_go. */
 uint32_t cq_wait_let_go(cq_env *env, cq_signal *signal, uint32_t thread, bool *gone);
 
-/* cq_let_go_of_all. */
+/* cq_let_go_of_all. Since 2.1. */
 uint32_t cq_wait_let_go_of_all(cq_env *env, cq_signal *signal);
 
 /* cq_get_all_threads. CQ_OUT_OF_MEMORY 110. */
@@ -138,7 +138,7 @@ uint32_t cq_wait_cancel(cq_env *env, cq_signal *signal, const cq_ticket *ticket)
 uint32_t cq_wait_discard(cq_env *env, cq_signal *signal, uint32_t thread, bool *discarded);
 
 /* cq_collect_cancelled. It sleeps until the answer is there. With CQ_TIMED_OUT 214 it is not, and the call is out as before.
- * CQ_NONE 303: no call that was cancelled is out at the thread. */
+ * CQ_NONE 303: no call that was cancelled is out at the thread. Since 2.2. */
 uint32_t cq_wait_collect_cancelled(cq_env *env, cq_signal *signal, uint32_t thread, int64_t timeout_ns, cq_answer *answer,
                                    cq_frame *frames, size_t room) CQ_MUST_USE;
 
@@ -240,7 +240,8 @@ uint32_t cq_wait_set_thread_local_storage(cq_env *env, cq_signal *signal, uint32
 uint32_t cq_wait_suspend_thread_list(cq_env *env, cq_signal *signal, const uint32_t *threads, size_t count,
                                      int64_t timeout_ns, uint32_t *codes) CQ_MUST_USE;
 
-/* ResumeThreadList: cq_wait_resume_thread of each of `count` threads, likewise. */
+/* ResumeThreadList: cq_wait_resume_thread of each of `count` threads, likewise.
+ * The codes are those of cq_wait_suspend_thread_list. */
 uint32_t cq_wait_resume_thread_list(cq_env *env, cq_signal *signal, const uint32_t *threads, size_t count,
                                     int64_t timeout_ns, uint32_t *codes) CQ_MUST_USE;
 
@@ -266,7 +267,7 @@ uint32_t cq_wait_get_thread_list_stack_traces(cq_env *env, cq_signal *signal, co
 
 /* Waits for any of several things. It sleeps until the answer to one of `count` calls is there, which were posted by functions of
  * cebdyraq.h, or until the list of threads has news (cq_has_news). It collects the answer, as cq_collect does: it writes to
- * `which` the index of the call, and returns the call's code. If several answers are there, it takes one of them.
+ * `which` the index of the call, and returns the code of the call. If several answers are there, it takes one of them.
  *
  * It gives the news again and again until the environment looks: by cq_meet or, if events are enabled, by cq_next_event. So take
  * events until there is none: one that is left is no news. After a cq_meet that failed it gives the news until one succeeds. So a
