@@ -31,6 +31,7 @@ test:
 	python3 ci/schemas.py
 	python3 ci/page_names.py
 	python3 ci/proved.py
+	python3 ci/generate.py --check
 	python3 ci/doc_examples.py
 	python3 ci/gate.py
 

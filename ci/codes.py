@@ -1,0 +1,99 @@
+"""Which codes each function gives, as the comments of the headers say it.
+
+- "CQ_NAME 123" is a code that the function gives. One that is only spoken of has no number. An item of a list is a code and when it
+  comes.
+- "codes are those of cq_other" stands for the codes of that function, and ", but for CQ_NAME" behind it names those that are missing.
+- "CQ_OK is its only code" stands for no other code.
+- "the code of the call": the function also gives whatever the call gives whose answer it collects.
+
+A function of cebdyraq_wait.h has the codes of its namesake, but for those that its waiting ends. CQ_MISUSED is in a list only where it has
+a further reason there.
+"""
+
+import re
+
+import api
+
+NUMBERED = re.compile(r"\bCQ_(\w+) (\d+)\b")
+ITEM = re.compile(r"^  (CQ_\w+ \d+(?:, CQ_\w+ \d+)*) +(.*(?:\n   .*)*)", re.M)
+SAME = re.compile(r"codes are those of (cq_\w+)(, but for [CQ_\w, ]+)?")
+NO_OTHER = "CQ_OK is its only code"
+OF_THE_CALL = "the code of the call"
+# What the section says that has codes of all its functions.
+IN_COMMON = "may be refused before it reaches the thread"
+ENDED_BY_WAITING = {"BUSY", "HELD", "WAITING", "NONE", "BARRED", "ALREADY_STOPPED", "STILL_RUNNING"}
+TIME = "timeout_ns"
+
+
+def bare(constant):
+    """CQ_BUSY as BUSY."""
+    return constant.name.removeprefix("CQ_")
+
+
+class Codes:
+    """The codes of functions, each with what is said of it, in their order."""
+
+    def __init__(self, table):
+        self.functions = {one.name: one for one in table.functions}
+        self.numbers = {bare(one): one.number for one in table.enum("cq_code").constants}
+        self.known = {}
+
+    def listed(self, comment, where):
+        """The codes that a comment gives a number to."""
+        told = {name: api.flat(item[2]) for item in ITEM.finditer(comment) for name, _ in NUMBERED.findall(item[1])}
+        for name, number in NUMBERED.findall(api.flat(comment)):
+            if self.numbers.get(name) != int(number):
+                raise ValueError(f"{where}: CQ_{name} {number} is no code")
+            told.setdefault(name, "")
+        return told
+
+    def at_a_thread(self, name):
+        """Whether the codes that all calls at a thread have in common are the function's as well."""
+        same = self.functions.get(self.functions[name].namesake)
+        return IN_COMMON in api.flat((same or self.functions[name]).section)
+
+    def in_common(self):
+        """The codes that all calls at a thread have in common."""
+        [section] = {one.section for one in self.functions.values() if IN_COMMON in api.flat(one.section)}
+        return {name: told for name, told in self.listed(section, "calls at a thread").items() if name != "WAITING"}
+
+    def of_the_call(self, name):
+        """Whether the function gives the code of a call whose answer it collects."""
+        one = self.functions[name]
+        return any(OF_THE_CALL in api.flat(other.comment) for other in (one, self.functions.get(one.namesake)) if other)
+
+    def said_elsewhere(self, function):
+        """The codes of its namesake, and of the functions that its comment names."""
+        others, without = [], set()
+        if function.namesake != function.name and function.namesake in self.functions:
+            others.append(function.namesake)
+        for other, but_for in SAME.findall(api.flat(function.comment)):
+            if other not in self.functions:
+                raise ValueError(f"{function.name}: there is no {other}")
+            others.append(other)
+            without.update(re.findall(r"CQ_(\w+)", but_for))
+        told = {code: said for other in others for code, said in self.of(other).items()}
+        if function.name != function.namesake:
+            without |= ENDED_BY_WAITING
+            without |= {"FULL"} if self.at_a_thread(function.name) else set()
+        return {code: said for code, said in told.items() if code not in without}
+
+    def made_of(self, function):
+        if NO_OTHER in api.flat(function.comment):
+            return {}
+        own, told = self.listed(function.comment, function.name), self.said_elsewhere(function)
+        codes = {code: own.get(code) or told.get(code, "") for code in (*told, *own)}
+        if any(one.name == TIME for one in function.parameters):
+            codes["TIMED_OUT"] = codes.pop("TIMED_OUT", "")
+        return codes
+
+    def of(self, name):
+        """The codes of a function, without what at_a_thread and of_the_call say."""
+        if name not in self.known:
+            self.known[name] = self.made_of(self.functions[name])
+        return self.known[name]
+
+    def given_by_none(self):
+        """The codes that no function gives."""
+        given = {code for name in self.functions for code in self.of(name)} | set(self.in_common()) | {"OK"}
+        return [f"CQ_{name}" for name in self.numbers if name not in given]

@@ -1,0 +1,100 @@
+#!/usr/bin/env python3
+"""Writes what says the same as the headers of the library for C: the names that the shared library exports, and the version wherever it
+stands.
+
+    ci/generate.py            writes
+    ci/generate.py --check    writes nothing, and fails if a file is not as it would be written
+
+A file of WHOLE is written whole. In others the version alone is written. What is generated is kept in the repository, so nobody who
+builds needs this. The last line is 'N passed, M failed', of files.
+"""
+
+import difflib
+import re
+import sys
+from dataclasses import dataclass
+
+sys.dont_write_bytecode = True
+
+import api
+import codes
+import header
+import made_c
+
+TOP = header.C.parent
+WHOLE = {
+    "c/cebdyraq.map": made_c.exported,
+}
+
+
+@dataclass(frozen=True)
+class Version:
+    """Where the version stands: how often, behind what, and how many of its numbers."""
+
+    path: str
+    before: str
+    count: int = 1
+    numbers: int = 3
+
+
+VERSIONS = (
+    Version("bindings/python/pyproject.toml", r'^version = "'),
+    Version("bindings/rust/Cargo.toml", r'^version = "'),
+    Version("bindings/rust/Cargo.lock", r'name = "cebdyraq(?:-sys)?"\nversion = "', count=2),
+    Version("bindings/rust/cebdyraq/Cargo.toml", r'^cebdyraq-sys = .* version = "'),
+    Version("bindings/rust/cebdyraq-sys/build.rs", r'"cebdyraq >= ', numbers=2),
+)
+
+
+def with_version(text, place, version):
+    number = ".".join(map(str, version[:place.numbers]))
+    made, count = re.subn(rf'({place.before})[\d.]+(?=")', rf"\g<1>{number}", text, flags=re.M)
+    if count != place.count:
+        raise ValueError(f"{place.path}: the version stands {count} times, and not {place.count} times")
+    return made
+
+
+def generated(table):
+    """The text of each file, as it is to be."""
+    none = codes.Codes(table).given_by_none()
+    if none:
+        raise ValueError(f"no function gives {', '.join(none)}")
+    files = {path: make(table) for path, make in WHOLE.items()}
+    for place in VERSIONS:
+        files[place.path] = with_version((TOP / place.path).read_text(), place, table.version)
+    return files
+
+
+def is_as(path, text):
+    """Whether a file has this text. Otherwise shows how it differs."""
+    before = (TOP / path).read_text() if (TOP / path).exists() else ""
+    sys.stdout.writelines(difflib.unified_diff(before.splitlines(True), text.splitlines(True), path, f"{path}, as generated"))
+    return before == text
+
+
+def check(files):
+    right = sum([is_as(path, text) for path, text in files.items()])
+    print(f"{right} passed, {len(files) - right} failed")
+    return right == len(files)
+
+
+def write(files):
+    for path, text in files.items():
+        if not (TOP / path).exists() or (TOP / path).read_text() != text:
+            (TOP / path).write_text(text)
+            print(f"written: {path}")
+    return True
+
+
+def main(words):
+    if words not in ([], ["--check"]):
+        sys.exit(__doc__.strip())
+    try:
+        files = generated(api.read())
+    except (SyntaxError, ValueError) as why:
+        sys.exit(f"the headers are not read: {why}")
+    return 0 if (check if words else write)(files) else 1
+
+
+if __name__ == "__main__":
+    sys.exit(main(sys.argv[1:]))

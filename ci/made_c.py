@@ -1,0 +1,47 @@
+"""What `ci/generate.py` writes for C and C++."""
+
+import re
+
+import header
+
+SAID = "Made from the headers by ci/generate.py. Do not edit."
+
+
+def numbers(text):
+    return tuple(map(int, text.split(".")))
+
+
+def recorded(major):
+    """The minor version of this major one in which each function came, by the records of the ABI (docs/ABI.md)."""
+    came = {}
+    for record in sorted(header.C.glob(f"abi/{major}.*.abi"), key=lambda path: numbers(path.stem)):
+        for name in re.findall(r"elf-symbol name='(\w+)'", record.read_text()):
+            came.setdefault(name, numbers(record.stem)[:2])
+    return came
+
+
+def node_of(function, came, version):
+    """The minor version in which a function came. Its comment has to say so, unless it is the first one of the major version."""
+    first = (version[0], 0)
+    node = came.get(function.name, version[:2])
+    said = max(function.since or first, first)
+    if said != node:
+        raise ValueError(f"{function.name} came with {node[0]}.{node[1]}, and its comment says {said[0]}.{said[1]}")
+    return node
+
+
+def exported(table):
+    """The version script: each function in the node of the minor version in which it came. The first node has those of the major
+    version's first one, and any that a test adds to a copy of the headers."""
+    major = table.version[0]
+    came, nodes = recorded(major), {}
+    for one in table.functions:
+        nodes.setdefault(node_of(one, came, table.version), []).append(one.name)
+    nodes.pop((major, 0))
+    before = f"CEBDYRAQ_{major}.0"
+    text = f"/* cebdyraq.map: what libcebdyraq.so exports. {SAID} */\n{before} {{\n    global: cq_*;\n    local: *;\n}};\n"
+    for node, names in sorted(nodes.items()):
+        name = "CEBDYRAQ_{}.{}".format(*node)
+        text += f"\n{name} {{\n    global: {' '.join(f'{one};' for one in names)}\n}} {before};\n"
+        before = name
+    return text
