@@ -1,12 +1,12 @@
 #!/usr/bin/env python3
-"""Writes what says the same as the headers of the library for C: the names that the shared library exports, and the version wherever it
-stands.
+"""Writes what says the same as the headers of the library for C: the names that the shared library exports, declarations of the bindings,
+and the version wherever it stands.
 
     ci/generate.py            writes
     ci/generate.py --check    writes nothing, and fails if a file is not as it would be written
 
-A file of WHOLE is written whole. In others the version alone is written. What is generated is kept in the repository, so nobody who
-builds needs this. The last line is 'N passed, M failed', of files.
+A file of WHOLE is written whole. In one of BLOCKS a block is, between a line that says so and a line that ends it, and in one of VERSIONS
+the version. What is generated is kept in the repository, so nobody who builds needs this. The last line is 'N passed, M failed', of files.
 """
 
 import difflib
@@ -20,10 +20,16 @@ import api
 import codes
 import header
 import made_c
+import made_rust
 
 TOP = header.C.parent
 WHOLE = {
+    "bindings/rust/cebdyraq-sys/src/api.rs": made_rust.declarations,
     "c/cebdyraq.map": made_c.exported,
+}
+# The blocks of a file, by their names.
+BLOCKS = {
+    "bindings/rust/cebdyraq/src/error.rs": {"errors": made_rust.errors},
 }
 
 
@@ -46,6 +52,15 @@ VERSIONS = (
 )
 
 
+def with_block(text, name, made):
+    """A text with a block between its two lines, which are comments."""
+    parts = re.split(rf"(// {name}: .*\n)(?:.*\n)*?(// end of {name}\n)", text)
+    if len(parts) != 4:
+        raise ValueError(f"there is no block {name}")
+    before, first, last, after = parts
+    return before + first + made + last + after
+
+
 def with_version(text, place, version):
     number = ".".join(map(str, version[:place.numbers]))
     made, count = re.subn(rf'({place.before})[\d.]+(?=")', rf"\g<1>{number}", text, flags=re.M)
@@ -60,6 +75,10 @@ def generated(table):
     if none:
         raise ValueError(f"no function gives {', '.join(none)}")
     files = {path: make(table) for path, make in WHOLE.items()}
+    for path, blocks in BLOCKS.items():
+        files[path] = (TOP / path).read_text()
+        for name, make in blocks.items():
+            files[path] = with_block(files[path], name, make(table))
     for place in VERSIONS:
         files[place.path] = with_version((TOP / place.path).read_text(), place, table.version)
     return files

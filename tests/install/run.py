@@ -3,7 +3,7 @@
 
     run.py [--gate] [NAME ..]
 
-With --gate, only what a C compiler alone can show (test_basics.py). A NAME is that of a module, a class or a test, as unittest
+With --gate, only what a C compiler alone can show (test_basics.py), and what the headers' table refuses (test_generated.py). A NAME is that of a module, a class or a test, as unittest
 has it. A test that needs a program that is missing is skipped. CC and CXX name the compilers, otherwise cc and c++. The last
 line is 'N passed, M failed'.
 """
@@ -15,13 +15,14 @@ sys.dont_write_bytecode = True
 
 import installed
 
-MODULES = ("test_basics", "test_abi", "test_platforms", "test_bindings", "test_debian", "test_unwind")
+GATE = ("test_basics", "test_generated")
+MODULES = (*GATE, "test_abi", "test_platforms", "test_bindings", "test_debian", "test_unwind")
 
 
 def main(words):
     if not (installed.TOP / "dist/lib/libcebdyraq.a").is_file():
         sys.exit("there is no library in dist/: make lib builds it")
-    chosen = [word for word in words if word != "--gate"] or ([MODULES[0]] if "--gate" in words else MODULES)
+    chosen = [word for word in words if word != "--gate"] or (GATE if "--gate" in words else MODULES)
     tests = unittest.defaultTestLoader.loadTestsFromNames(chosen)
     result = unittest.TextTestRunner(stream=sys.stdout, verbosity=2).run(tests)
     failed = len(result.failures) + len(result.errors)

@@ -8,8 +8,7 @@ use std::time::Duration;
 
 /// Capabilities, as a sum of bits.
 pub mod capabilities {
-    pub const SUSPEND: u32 = 1;
-    pub const POP_FRAME: u32 = 2;
+    pub use cebdyraq_sys::{CQ_CAN_POP_FRAME as POP_FRAME, CQ_CAN_SUSPEND as SUSPEND};
 }
 
 /// What is told of a thread.
@@ -31,17 +30,18 @@ pub struct StackInfo {
 
 /// Kinds of events.
 #[derive(Clone, Copy, Debug, PartialEq, Eq, Hash)]
+#[repr(u32)]
 pub enum EventKind {
     /// A thread has started.
-    ThreadStart,
+    ThreadStart = sys::CQ_THREAD_START,
     /// A thread has ended.
-    ThreadEnd,
+    ThreadEnd = sys::CQ_THREAD_END,
     /// A class was defined.
-    ClassPrepare,
+    ClassPrepare = sys::CQ_CLASS_PREPARE,
     /// A thread was attached. It is no event of JVM TI.
-    ThreadAttached,
+    ThreadAttached = sys::CQ_THREAD_ATTACHED,
     /// A thread was given back, and can be let go. It is no event of JVM TI.
-    ThreadDetached,
+    ThreadDetached = sys::CQ_THREAD_DETACHED,
 }
 
 impl EventKind {
@@ -52,6 +52,10 @@ impl EventKind {
         EventKind::ThreadAttached,
         EventKind::ThreadDetached,
     ];
+
+    fn of(number: u32) -> EventKind {
+        Self::ALL.into_iter().find(|kind| *kind as u32 == number).expect("only kinds that were enabled are told")
+    }
 }
 
 /// An event.
@@ -345,8 +349,7 @@ impl Environment {
     pub fn next_event(&mut self) -> Result<Event, Error> {
         let mut event = sys::cq_event::default();
         checked(unsafe { sys::cq_wait_next_event(self.at(), self.signal.at(), self.time(), &mut event) })?;
-        let kind = EventKind::ALL[event.kind as usize];
-        Ok(Event { kind, number: event.number, lost: event.lost })
+        Ok(Event { kind: EventKind::of(event.kind), number: event.number, lost: event.lost })
     }
 
     /// DisposeEnvironment. So does a drop, which has no error, and waits as long as it takes. While it may suspend threads or pop frames,

@@ -22,10 +22,11 @@ macro_rules! errors {
     };
 }
 
+// errors: made from the headers by ci/generate.py. Do not edit.
 errors! {
     /// There is no thread of this number, or the environment has not met it.
     InvalidThread = CQ_INVALID_THREAD
-    /// A resumption or a pop, and the thread is not suspended.
+    /// A resumption or a pop, and the thread is not suspended; or the end of a stop, and it does not stop for the environment.
     ThreadNotSuspended = CQ_THREAD_NOT_SUSPENDED
     /// A suspension, and the thread is suspended.
     ThreadSuspended = CQ_THREAD_SUSPENDED
@@ -63,7 +64,7 @@ errors! {
     NoFrame = CQ_NO_FRAME
     /// A new location for a native frame.
     NotJavaFrame = CQ_NOT_JAVA_FRAME
-    /// The newest frame is not native.
+    /// A hand-over to native code, and the newest frame is not native.
     NoNativeFrame = CQ_NO_NATIVE_FRAME
     /// The thread has spent its 2^59 steps.
     OwnSpent = CQ_OWN_SPENT
@@ -71,11 +72,12 @@ errors! {
     CallsSpent = CQ_CALLS_SPENT
     /// The time is over.
     TimedOut = CQ_TIMED_OUT
-    /// A bound other than memory leaves no room: for an environment, a class, or a call in the window.
+    /// A bound other than memory leaves no room for it: the window, `envs`, the 65,536 threads that an environment may have met, or a count that no process reaches.
     Full = CQ_FULL
-    /// All frames are to be set, and frames were popped that the runtime has not taken note of.
+    /// All frames are to be set, and frames were popped that the runtime has not taken note of (cq_take_pops).
     Popped = CQ_POPPED
 }
+// end of errors
 
 impl fmt::Display for Error {
     fn fmt(&self, f: &mut fmt::Formatter<'_>) -> fmt::Result {

@@ -8,9 +8,9 @@ use cebdyraq_sys as sys;
 #[derive(Clone, Copy, Debug, PartialEq, Eq, Hash)]
 #[repr(u32)]
 pub enum StopKind {
-    Breakpoint = 0,
-    SingleStep = 1,
-    FramePop = 2,
+    Breakpoint = sys::CQ_BREAKPOINT,
+    SingleStep = sys::CQ_SINGLE_STEP,
+    FramePop = sys::CQ_FRAME_POP,
 }
 
 /// A stop of a thread: where it is, and why it stops there.
@@ -55,7 +55,7 @@ impl Running {
 
 /// A thread's number for C. `None` is all threads.
 fn one_or_all(thread: Option<u32>) -> u32 {
-    thread.unwrap_or(u32::MAX)
+    thread.unwrap_or(sys::CQ_ALL_THREADS)
 }
 
 impl Environment {
@@ -102,9 +102,9 @@ impl Environment {
             thread: stop.thread,
             method: stop.method,
             location: stop.location,
-            breakpoint: has(1),
-            single_step: has(2),
-            frame_pop: has(4),
+            breakpoint: has(sys::CQ_STOP_BREAKPOINT),
+            single_step: has(sys::CQ_STOP_SINGLE_STEP),
+            frame_pop: has(sys::CQ_STOP_FRAME_POP),
         })
     }
 

@@ -12,12 +12,12 @@ pub use sys::cq_frame as Frame;
 #[derive(Clone, Copy, Debug, PartialEq, Eq, Hash)]
 #[repr(u32)]
 pub enum Reason {
-    MonitorEnter = 0,
-    ObjectWait = 1,
-    TimedWait = 2,
-    Sleep = 3,
-    Park = 4,
-    TimedPark = 5,
+    MonitorEnter = sys::CQ_MONITOR_ENTER,
+    ObjectWait = sys::CQ_OBJECT_WAIT,
+    TimedWait = sys::CQ_TIMED_WAIT,
+    Sleep = sys::CQ_SLEEP,
+    Park = sys::CQ_PARK,
+    TimedPark = sys::CQ_TIMED_PARK,
 }
 
 /// Where compiled code looks before it polls: somebody calls for the thread while one of these bits of the word is set.
