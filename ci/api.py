@@ -118,6 +118,7 @@ SINCE = re.compile(r"\bSince (\d+)\.(\d+)\.")
 REST = re.compile(r'^(?:#.*|static inline [^;]*\{\n(?: .*\n)*\}|extern "C" \{|\})$', re.M)
 COMMENT = re.compile(r"/\*.*?\*/", re.S)
 WORDS = {"UINT32_MAX": 2**32 - 1}
+BASES = {"void", "char", "bool", "double", "size_t", "int32_t", "int64_t", "uint8_t", "uint16_t", "uint32_t", "uint64_t"}
 
 
 def flat(text):
@@ -195,6 +196,22 @@ def left_over(part):
     return flat(COMMENT.sub("", code))
 
 
+def bases_of(types):
+    """The names of types that these are made of."""
+    for kind in types:
+        if kind.signature:
+            yield from bases_of([kind.signature.result, *(one.type for one in kind.signature.parameters)])
+        else:
+            yield kind.base
+
+
+def all_types(api):
+    for one in api.structs:
+        yield from (member.type for member in one.members or [])
+    for one in api.functions:
+        yield from (one.result, *(parameter.type for parameter in one.parameters))
+
+
 def read(folder=header.C):
     api = Api(header.version(folder), [], [], [])
     for name in header.HEADERS:
@@ -207,6 +224,7 @@ def read(folder=header.C):
             api.structs.extend(structs_of(part))
             api.functions.extend(functions_of(part, section, name))
     missed = set(header.functions(folder)) ^ {one.name for one in api.functions}
+    missed |= set(bases_of(all_types(api))) - BASES - {one.name for one in api.structs}
     if missed:
         raise SyntaxError(f"not read: {', '.join(sorted(missed))}")
     return api

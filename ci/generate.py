@@ -20,10 +20,12 @@ import api
 import codes
 import header
 import made_c
+import made_python
 import made_rust
 
 TOP = header.C.parent
 WHOLE = {
+    "bindings/python/cebdyraq/_api.py": made_python.declarations,
     "bindings/rust/cebdyraq-sys/src/api.rs": made_rust.declarations,
     "c/cebdyraq.map": made_c.exported,
 }

@@ -7,6 +7,13 @@ import header
 SAID = "Made from the headers by ci/generate.py. Do not edit."
 
 
+def stem(enum):
+    """What the names of an enum's constants have in common, up to an underscore."""
+    names = [one.name for one in enum.constants]
+    length = next(at for at, signs in enumerate(zip(*names)) if len(set(signs)) > 1)
+    return names[0][:names[0].rindex("_", 0, length) + 1]
+
+
 def numbers(text):
     return tuple(map(int, text.split(".")))
 

@@ -3,7 +3,6 @@
 import functools
 import os
 import pathlib
-import re
 import shutil
 import sys
 import unittest
@@ -66,30 +65,12 @@ def next_major():
     return (header.version()[0] + 1) * 1000000
 
 
-class Declared(unittest.TestCase):
-    def parameters(self):
-        """How many parameters each function has."""
-        text = {name: prototype[prototype.index("(") + 1:-2] for name, prototype in header.functions().items()}
-        nested = {name: re.sub(r"\([^()]*\)", "", re.sub(r"\([^()]*\)", "", parameters)) for name, parameters in text.items()}
-        return {name: 0 if parameters == "void" else parameters.count(",") + 1 for name, parameters in nested.items()}
-
-    def test_python_declares_no_other(self):
-        sys.path.insert(0, str(PYTHON))
-        from cebdyraq._library import FUNCTIONS
-        counts = self.parameters()
-        for name, arguments in FUNCTIONS.items():
-            self.assertEqual(len(arguments) + 1, counts[name], name)
-
-    def test_python_has_the_version(self):
-        self.assertIn("VERSION = ({}, {})".format(*header.version()), (PYTHON / "cebdyraq/_library.py").read_text())
-
-
 @unittest.skipUnless(wheel_maker(), "there is no Python with pip, setuptools and wheel")
 class Python(unittest.TestCase):
     def test_wheel_has_the_package_and_its_types(self):
         self.assertEqual(wheel().name, f"cebdyraq-{VERSION}-py3-none-any.whl")
         listed = run(sys.executable, "-m", "zipfile", "-l", wheel())
-        for name in ("__init__.py", "_environment.py", "_library.py", "_values.py", "py.typed"):
+        for name in ("__init__.py", "_api.py", "_environment.py", "_library.py", "_types.py", "_values.py", "py.typed"):
             self.assertIn(f"cebdyraq/{name} ", listed)
 
     def test_agent_over_the_shared_library(self):

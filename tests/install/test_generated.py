@@ -59,5 +59,5 @@ class Generated(unittest.TestCase):
         path.write_text(path.read_text().replace(before, f"{before}\n/* Comes. Since {MAJOR}.{MINOR}. */\nbool cq_comes(cq_thread *thread);\n"))
         run(sys.executable, made / "ci/generate.py")
         run(sys.executable, made / "ci/generate.py", "--check")
-        for name in ("c/cebdyraq.map", "bindings/rust/cebdyraq-sys/src/api.rs"):
+        for name in ("bindings/python/cebdyraq/_api.py", "bindings/rust/cebdyraq-sys/src/api.rs", "c/cebdyraq.map"):
             self.assertIn("cq_comes", (made / name).read_text())

@@ -16,11 +16,11 @@ The functions have the names and the rules of cebdyraq.h. They wait asleep, as t
 threads run on meanwhile. A `timeout` is in seconds, and None is for ever. A code other than CQ_OK is raised as an Error.
 """
 
+from ._api import Capability, Code, EventKind, StopKind, StopReason
 from ._environment import Cancelled, Environment, Posted
 from ._library import load
 from ._server import Server
-from ._values import (Capability, Code, Error, Event, EventKind, Frame, LineEntry, MethodName, StackInfo, Stop, StopKind, StopReason,
-                      ThreadInfo)
+from ._values import Error, Event, Frame, LineEntry, MethodName, StackInfo, Stop, ThreadInfo
 from ._variables import Value, Variable, Variables
 
 __all__ = ["Cancelled", "Capability", "Code", "Environment", "Error", "Event", "EventKind", "Frame", "LineEntry", "MethodName", "Posted", "Server",

@@ -4,10 +4,10 @@ import ctypes
 import time
 from typing import Any, List, Optional
 
-from . import _library as lib
-from ._values import Code, Error, LineEntry, MethodName
-
-LINES_LOCATIONS = 1  # CQ_LINES_LOCATIONS
+from . import _api as api
+from ._api import Code, LinesKind
+from ._types import BOOL, U32, U64
+from ._values import Error, LineEntry, MethodName
 
 
 def _text(items: Any) -> str:
@@ -34,7 +34,7 @@ class Classes:
         """Asks with more room until all is there."""
         room = 64
         while True:
-            items, count = (kind * room)(), lib.U64()
+            items, count = (kind * room)(), U64()
             self._settled(name, *arguments, items, room, ctypes.byref(count))
             if count.value <= room:
                 return items[:count.value]
@@ -42,7 +42,7 @@ class Classes:
 
     def get_loaded_classes(self) -> List[int]:
         """The numbers of all classes, in rising order."""
-        return list(self._whole(lib.U32, "cq_get_loaded_classes"))
+        return list(self._whole(U32, "cq_get_loaded_classes"))
 
     def get_class_signature(self, class_no: int) -> str:
         return _text(self._whole(ctypes.c_uint8, "cq_get_class_signature", class_no))
@@ -53,10 +53,10 @@ class Classes:
 
     def get_class_methods(self, class_no: int) -> List[int]:
         """The numbers of its methods, in the order in which they were given."""
-        return list(self._whole(lib.U32, "cq_get_class_methods", class_no))
+        return list(self._whole(U32, "cq_get_class_methods", class_no))
 
     def get_method_name(self, method: int) -> MethodName:
-        info = lib.MethodName()
+        info = api.MethodName()
         rooms = [64, 64]
         while True:
             name, signature = ((ctypes.c_uint8 * room)() for room in rooms)
@@ -66,20 +66,20 @@ class Classes:
             rooms = [max(rooms[0], info.name_length), max(rooms[1], info.signature_length)]
 
     def get_method_declaring_class(self, method: int) -> int:
-        class_no = lib.U32()
+        class_no = U32()
         self._settled("cq_get_method_declaring_class", method, ctypes.byref(class_no))
         return class_no.value
 
     def is_method_native(self, method: int) -> bool:
-        native = lib.BOOL()
+        native = BOOL()
         self._settled("cq_is_method_native", method, ctypes.byref(native))
         return native.value
 
     def get_line_number_table(self, method: int) -> Optional[List[LineEntry]]:
         """The entries of the method's table, or None if a location is its line. Code.NATIVE_METHOD if the method is native,
         otherwise Code.ABSENT_INFORMATION if it was defined without lines."""
-        kind = lib.U32()
-        entries = self._whole(lib.LineEntry, "cq_get_line_number_table", method, ctypes.byref(kind))
-        if kind.value == LINES_LOCATIONS:
+        kind = U32()
+        entries = self._whole(api.LineEntry, "cq_get_line_number_table", method, ctypes.byref(kind))
+        if kind.value == LinesKind.LOCATIONS:
             return None
         return [LineEntry(entry.start_location, entry.line_number) for entry in entries]

@@ -7,13 +7,14 @@ import time
 from types import TracebackType
 from typing import Any, Callable, Generic, List, NamedTuple, Optional, Sequence, Type, TypeVar
 
-from . import _library as lib
+from . import _api as api
+from ._api import ALL_THREADS, Capability, Code, EventKind, StopKind, StopReason
 from ._classes import Classes
-from ._values import Capability, Code, Error, Event, EventKind, Frame, StackInfo, Stop, StopKind, StopReason, ThreadInfo
+from ._library import numbers, room_for
+from ._types import BOOL, SIZE, U32, U64
+from ._values import Error, Event, Frame, StackInfo, Stop, ThreadInfo
 
 Told = TypeVar("Told")
-
-ALL_THREADS = 2**32 - 1  # CQ_ALL_THREADS
 
 
 def _nanoseconds(timeout: Optional[float]) -> int:
@@ -29,7 +30,7 @@ class Posted(Generic[Told]):
 
     def __init__(self, env: "Environment", read: Callable[[Any, Any], Told], frames: Any) -> None:
         self._env, self._read, self._frames = env, read, frames
-        self._answer, self._is_out, self._code = lib.Answer(), False, int(Code.OK)
+        self._answer, self._is_out, self._code = api.Answer(), False, int(Code.OK)
 
     def _post(self, name: str, *arguments: Any) -> "Posted[Told]":
         with_frames = (self._frames, len(self._frames)) if name == "cq_get_stack_trace" else ()
@@ -41,7 +42,7 @@ class Posted(Generic[Told]):
         if code not in (Code.OK, Code.WAITING):
             raise Error(code)
         self._is_out = code == Code.WAITING
-        self._ticket = lib.Ticket.from_buffer_copy(self._answer.ticket)
+        self._ticket = api.Ticket.from_buffer_copy(self._answer.ticket)
         return self
 
     def collect(self, timeout: Optional[float] = None) -> Told:
@@ -99,7 +100,7 @@ class Environment(Classes):
 
     def __init__(self, library: ctypes.CDLL, service: int, signal: int) -> None:
         self._library, self._signal = library, signal
-        self._handle = lib.Handle()
+        self._handle = api.Env()
         self._one_at_a_time = threading.Lock()
         code = library.cq_wait_attach_environment(service, signal, ctypes.byref(self._handle))
         if code != Code.OK:
@@ -139,7 +140,7 @@ class Environment(Classes):
 
     def let_go(self, thread: int) -> bool:
         """Lets go of a thread that was given back, and says whether it did."""
-        return bool(self._get(lib.BOOL, "cq_wait_let_go", self._signal, thread))
+        return bool(self._get(BOOL, "cq_wait_let_go", self._signal, thread))
 
     def let_go_of_all(self) -> None:
         """Lets go of all threads that were given back and at which none of its calls is out."""
@@ -149,14 +150,14 @@ class Environment(Classes):
         """The numbers of the threads that are attached, in rising order."""
         room = 64
         while True:
-            threads, count = (lib.U32 * room)(), lib.U64()
+            threads, count = (U32 * room)(), U64()
             self._call("cq_wait_get_all_threads", self._signal, threads, room, ctypes.byref(count))
             if count.value <= room:
                 return list(threads[:count.value])
             room = count.value
 
     def get_thread_info(self, thread: int) -> ThreadInfo:
-        info = lib.ThreadInfo()
+        info = api.ThreadInfo()
         room = 64
         while True:
             name = (ctypes.c_uint8 * room)()
@@ -169,21 +170,21 @@ class Environment(Classes):
 
     def get_thread_state(self, thread: int, timeout: Optional[float] = None) -> int:
         """The bits of the thread's state."""
-        return int(self._get(lib.U32, "cq_wait_get_thread_state", self._signal, thread, _nanoseconds(timeout)))
+        return int(self._get(U32, "cq_wait_get_thread_state", self._signal, thread, _nanoseconds(timeout)))
 
     def get_frame_count(self, thread: int, timeout: Optional[float] = None) -> int:
-        return int(self._get(lib.U32, "cq_wait_get_frame_count", self._signal, thread, _nanoseconds(timeout)))
+        return int(self._get(U32, "cq_wait_get_frame_count", self._signal, thread, _nanoseconds(timeout)))
 
     def get_frame_location(self, thread: int, depth: int, timeout: Optional[float] = None) -> Frame:
         """The frame at a depth, 0 for the newest one."""
-        frame = lib.Frame()
+        frame = api.Frame()
         self._call("cq_wait_get_frame_location", self._signal, thread, depth, _nanoseconds(timeout), ctypes.byref(frame))
         return Frame(frame.method, frame.location)
 
     def get_stack_trace(self, thread: int, start: int = 0, max_count: int = 1024, timeout: Optional[float] = None) -> List[Frame]:
         """At most `max_count` frames, newest first, from `start` on. A negative `start` counts from the oldest."""
-        frames = lib.room_for(max_count)
-        count = self._get(lib.U32, "cq_wait_get_stack_trace", self._signal, thread, start, max_count, _nanoseconds(timeout), frames,
+        frames = room_for(max_count)
+        count = self._get(U32, "cq_wait_get_stack_trace", self._signal, thread, start, max_count, _nanoseconds(timeout), frames,
                           len(frames))
         return _frames_in(frames, count)
 
@@ -194,11 +195,11 @@ class Environment(Classes):
     def get_thread_list_stack_traces(self, threads: Sequence[int], max_count: int = 1024,
                                      timeout: Optional[float] = None) -> List[StackInfo]:
         """The same of each of these threads, in their order. One that is not alive has no frames."""
-        return self._gather("cq_wait_get_thread_list_stack_traces", lib.numbers(threads), len(threads), max_count, _nanoseconds(timeout))
+        return self._gather("cq_wait_get_thread_list_stack_traces", numbers(threads), len(threads), max_count, _nanoseconds(timeout))
 
     def _gather(self, name: str, *arguments: Any) -> List[StackInfo]:
         """Makes a trace, and reads all that it has gathered before another call of the environment is made."""
-        count = lib.U64()
+        count = U64()
         with self._one_at_a_time:
             code = getattr(self._library, name)(ctypes.byref(self._handle), self._signal, *arguments, ctypes.byref(count))
             if code != Code.OK:
@@ -206,14 +207,14 @@ class Environment(Classes):
             return [self._gathered_stack(index) for index in range(count.value)]
 
     def _gathered_stack(self, index: int) -> StackInfo:
-        info, frames = lib.StackInfo(), lib.room_for(0)
+        info, frames = api.StackInfo(), room_for(0)
         for _ in range(2):
             code = self._library.cq_gathered_stack(ctypes.byref(self._handle), index, ctypes.byref(info), frames, len(frames))
             if code != Code.OK:
                 raise Error(code)
             if info.frame_count <= len(frames):
                 break
-            frames = lib.room_for(info.frame_count)
+            frames = room_for(info.frame_count)
         return StackInfo(info.thread, info.state, _frames_in(frames, info.frame_count))
 
     def suspend_thread(self, thread: int, timeout: Optional[float] = None) -> None:
@@ -228,7 +229,7 @@ class Environment(Classes):
         self._call("cq_wait_ensure_resumed", self._signal, thread, _nanoseconds(timeout))
 
     def _list(self, name: str, threads: Sequence[int], timeout: Optional[float]) -> List[Code]:
-        wanted, codes = lib.numbers(threads), (lib.U32 * len(threads))()
+        wanted, codes = numbers(threads), (U32 * len(threads))()
         self._call(name, self._signal, wanted, len(threads), _nanoseconds(timeout), codes)
         return [Code(code) for code in codes]
 
@@ -244,7 +245,7 @@ class Environment(Classes):
         self._call("cq_wait_pop_frame", self._signal, thread, _nanoseconds(timeout))
 
     def get_thread_local_storage(self, thread: int, timeout: Optional[float] = None) -> int:
-        return int(self._get(lib.U64, "cq_wait_get_thread_local_storage", self._signal, thread, _nanoseconds(timeout)))
+        return int(self._get(U64, "cq_wait_get_thread_local_storage", self._signal, thread, _nanoseconds(timeout)))
 
     def set_thread_local_storage(self, thread: int, word: int, timeout: Optional[float] = None) -> None:
         self._call("cq_wait_set_thread_local_storage", self._signal, thread, word, _nanoseconds(timeout))
@@ -252,19 +253,19 @@ class Environment(Classes):
     # Calls that are posted now and collected later.
 
     def post_frame_count(self, thread: int) -> Posted[int]:
-        return Posted(self, _number, lib.room_for(0))._post("cq_get_frame_count", thread)
+        return Posted(self, _number, room_for(0))._post("cq_get_frame_count", thread)
 
     def post_frame_location(self, thread: int, depth: int) -> Posted[Frame]:
-        return Posted(self, _frame, lib.room_for(0))._post("cq_get_frame_location", thread, depth)
+        return Posted(self, _frame, room_for(0))._post("cq_get_frame_location", thread, depth)
 
     def post_stack_trace(self, thread: int, start: int = 0, max_count: int = 1024) -> Posted[List[Frame]]:
-        return Posted(self, _frames, lib.room_for(max_count))._post("cq_get_stack_trace", thread, start, max_count)
+        return Posted(self, _frames, room_for(max_count))._post("cq_get_stack_trace", thread, start, max_count)
 
     def post_suspend_thread(self, thread: int) -> Posted[None]:
-        return Posted(self, _nothing, lib.room_for(0))._post("cq_suspend_thread", thread)
+        return Posted(self, _nothing, room_for(0))._post("cq_suspend_thread", thread)
 
     def post_pop_frame(self, thread: int) -> Posted[None]:
-        return Posted(self, _nothing, lib.room_for(0))._post("cq_pop_frame", thread)
+        return Posted(self, _nothing, room_for(0))._post("cq_pop_frame", thread)
 
     def wait_any(self, calls: Sequence[Posted[Any]], timeout: Optional[float] = None) -> Optional[Posted[Any]]:
         """Waits until one of these calls is answered, and gives it: its `collect` does not wait then. None says that threads or
@@ -272,9 +273,9 @@ class Environment(Classes):
         for call in calls:
             if not call._is_out:
                 return call
-        tickets = (lib.Ticket * len(calls))(*(call._ticket for call in calls))
-        which, answer, frames = lib.SIZE(), lib.Answer(), max((call._frames for call in calls), key=len, default=lib.room_for(0))
-        room = (lib.Frame * len(frames))()
+        tickets = (api.Ticket * len(calls))(*(call._ticket for call in calls))
+        which, answer, frames = SIZE(), api.Answer(), max((call._frames for call in calls), key=len, default=room_for(0))
+        room = (api.Frame * len(frames))()
         code = self._plain_call("cq_wait_any", self._signal, tickets, len(calls), _nanoseconds(timeout), ctypes.byref(which),
                                 ctypes.byref(answer), room, len(room))
         if code == Code.NONE:
@@ -285,12 +286,12 @@ class Environment(Classes):
 
     def discard(self, thread: int) -> bool:
         """Discards the answer to the call that was cancelled first at the thread, and says whether it was there."""
-        return bool(self._get(lib.BOOL, "cq_wait_discard", self._signal, thread))
+        return bool(self._get(BOOL, "cq_wait_discard", self._signal, thread))
 
     def collect_cancelled(self, thread: int, calls: Sequence[Posted[Any]] = (), timeout: Optional[float] = None) -> Optional[Cancelled]:
         """What came of the call that was cancelled first at the thread, which may be one of these calls. None if no call that was
         cancelled is out there. With Code.TIMED_OUT it is out as before."""
-        answer, room = lib.Answer(), lib.room_for(max((len(call._frames) for call in calls), default=0))
+        answer, room = api.Answer(), room_for(max((len(call._frames) for call in calls), default=0))
         code = self._plain_call("cq_wait_collect_cancelled", self._signal, thread, _nanoseconds(timeout), ctypes.byref(answer), room, len(room))
         if code == Code.NONE:
             return None
@@ -301,11 +302,11 @@ class Environment(Classes):
 
     def out_at(self, thread: int) -> int:
         """How many calls are out at the thread."""
-        return int(self._get(lib.U32, "cq_out_at", thread))
+        return int(self._get(U32, "cq_out_at", thread))
 
     def stopper(self, thread: int) -> Optional[int]:
         """The number of the environment whose trace has stopped the thread. None if none has."""
-        number = ctypes.c_uint32()
+        number = U32()
         try:
             self._settled("cq_stopper", thread, ctypes.byref(number))
         except Error as why:
@@ -316,7 +317,7 @@ class Environment(Classes):
 
     def number(self) -> int:
         """The environment's number."""
-        return int(self._get(lib.U32, "cq_environment_number"))
+        return int(self._get(U32, "cq_environment_number"))
 
     # The environment itself.
 
@@ -327,13 +328,13 @@ class Environment(Classes):
         self._call("cq_relinquish_capabilities", capabilities)
 
     def get_capabilities(self) -> Capability:
-        return Capability(self._get(lib.U32, "cq_get_capabilities"))
+        return Capability(self._get(U32, "cq_get_capabilities"))
 
     def get_potential_capabilities(self) -> Capability:
-        return Capability(self._get(lib.U32, "cq_get_potential_capabilities"))
+        return Capability(self._get(U32, "cq_get_potential_capabilities"))
 
     def get_environment_local_storage(self) -> int:
-        return int(self._get(lib.U64, "cq_get_environment_local_storage"))
+        return int(self._get(U64, "cq_get_environment_local_storage"))
 
     def set_environment_local_storage(self, word: int) -> None:
         self._call("cq_set_environment_local_storage", word)
@@ -344,7 +345,7 @@ class Environment(Classes):
 
     def next_event(self, timeout: Optional[float] = None) -> Event:
         """The next event. Events that are disabled never come."""
-        event = lib.Event()
+        event = api.Event()
         self._call("cq_wait_next_event", self._signal, _nanoseconds(timeout), ctypes.byref(event))
         return Event(EventKind(event.kind), event.number, event.lost)
 
@@ -371,7 +372,7 @@ class Environment(Classes):
 
     def next_stop(self, timeout: Optional[float] = None) -> Stop:
         """The next stop. The thread stops until `end_stop`."""
-        stop = lib.Stop()
+        stop = api.Stop()
         self._call("cq_wait_next_stop", self._signal, _nanoseconds(timeout), ctypes.byref(stop))
         return Stop(stop.thread, stop.method, stop.location, StopReason(stop.why))
 

@@ -5,8 +5,9 @@ import os
 from types import TracebackType
 from typing import Optional, Type
 
-from . import _library as lib
-from ._values import Code, Error
+from . import _api as api
+from ._api import Code
+from ._values import Error
 from ._variables import Variables, functions
 
 
@@ -23,7 +24,7 @@ class Server:
 
     def __init__(self, library: ctypes.CDLL, service: int, signal: int, address: str, program: str, path: Optional[str] = None,
                  variables: Optional[Variables] = None, pops_frames: bool = False, starts_suspended: bool = False) -> None:
-        self._library, self._memory = library, lib.Server()
+        self._library, self._memory = library, api.Server()
         if variables is not None:
             self._functions = functions(library, variables)
             library.cq_server_variables(ctypes.byref(self._memory), ctypes.byref(self._functions))

@@ -5,8 +5,9 @@ import traceback
 from dataclasses import dataclass
 from typing import Any, Callable, Iterable, Mapping, Protocol, Sequence, Union
 
-from . import _library as lib
-from ._values import Code, Error
+from . import _api as api
+from ._api import Code
+from ._values import Error
 
 
 @dataclass(frozen=True)
@@ -80,7 +81,7 @@ def _code_of(tell: Callable[..., None]) -> Callable[..., int]:
     return call
 
 
-def functions(library: ctypes.CDLL, variables: Variables) -> lib.Variables:
+def functions(library: ctypes.CDLL, variables: Variables) -> api.Variables:
     """The functions for a server. They are kept as long as it serves."""
 
     def of_method(_: int, method: int, teller: int) -> None:
@@ -92,4 +93,4 @@ def functions(library: ctypes.CDLL, variables: Variables) -> lib.Variables:
         for slot, value in variables.of_frame(thread, depth).items():
             _tell_value(library, teller, slot, value)
 
-    return lib.Variables(None, lib.OF_METHOD(_code_of(of_method)), lib.OF_FRAME(_code_of(of_frame)))
+    return api.Variables(None, api.OF_METHOD(_code_of(of_method)), api.OF_FRAME(_code_of(of_frame)))
