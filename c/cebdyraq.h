@@ -963,7 +963,6 @@ bool cq_may_stop(cq_thread *thread);
  * A debugger's step out of a method ends at the first location that its caller reaches. So a runtime that says where each line begins
  * also says, after a call has returned, where the caller goes on in the middle of a line.
  *
- *   CQ_MISUSED 304        as ever
  *   CQ_OUT_OF_MEMORY 110  there is no memory for a stop. The thread does not stop
  *   CQ_FULL 216           threads and environments have come and gone, or threads have stopped, 2^62 - 1 times
  *   CQ_BUSY 215           the list of threads is in use */

@@ -32,6 +32,8 @@
 
 namespace cebdyraq {
 
+// enums: made from the headers by ci/generate.py. Do not edit.
+/* The codes. */
 enum class code : std::uint32_t {
     ok = CQ_OK,
     invalid_thread = CQ_INVALID_THREAD,
@@ -74,6 +76,7 @@ enum class code : std::uint32_t {
     system = CQ_SYSTEM
 };
 
+/* Why a thread blocks. */
 enum class reason : std::uint32_t {
     monitor_enter = CQ_MONITOR_ENTER,
     object_wait = CQ_OBJECT_WAIT,
@@ -82,6 +85,15 @@ enum class reason : std::uint32_t {
     park = CQ_PARK,
     timed_park = CQ_TIMED_PARK
 };
+
+/* What is known of a method's lines. */
+enum class lines_kind : std::uint32_t {
+    absent = CQ_LINES_ABSENT,
+    locations = CQ_LINES_LOCATIONS,
+    table = CQ_LINES_TABLE,
+    native = CQ_LINES_NATIVE
+};
+// end of enums
 
 using frame = cq_frame;
 using event = cq_event;
@@ -141,14 +153,6 @@ struct cancelled_call {
     code got;
     cq_answer answer;
     std::vector<frame> frames;
-};
-
-/* What is known of a method's lines. */
-enum class lines_kind : std::uint32_t {
-    absent = CQ_LINES_ABSENT,
-    locations = CQ_LINES_LOCATIONS,
-    table = CQ_LINES_TABLE,
-    native = CQ_LINES_NATIVE
 };
 
 using line_entry = cq_line_entry;

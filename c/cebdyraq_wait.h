@@ -236,7 +236,7 @@ uint32_t cq_wait_set_thread_local_storage(cq_env *env, cq_signal *signal, uint32
  * has one try.
  *
  * CQ_MUST_POSSESS_CAPABILITY 99 and CQ_OUT_OF_MEMORY 110 (malloc has no memory for the list) are of the whole call. Then no code
- * is written, and no thread is suspended. */
+ * is written, and no thread is suspended. The whole call never gives CQ_TIMED_OUT. */
 uint32_t cq_wait_suspend_thread_list(cq_env *env, cq_signal *signal, const uint32_t *threads, size_t count,
                                      int64_t timeout_ns, uint32_t *codes) CQ_MUST_USE;
 

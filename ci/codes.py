@@ -3,7 +3,7 @@
 - "CQ_NAME 123" is a code that the function gives. One that is only spoken of has no number. An item of a list is a code and when it
   comes.
 - "codes are those of cq_other" stands for the codes of that function, and ", but for CQ_NAME" behind it names those that are missing.
-- "CQ_OK is its only code" stands for no other code.
+- "CQ_OK is its only code" stands for no other code, and "never gives CQ_NAME" for one that its time would let it give.
 - "the code of the call": the function also gives whatever the call gives whose answer it collects.
 
 A function of cebdyraq_wait.h has the codes of its namesake, but for those that its waiting ends. CQ_MISUSED is in a list only where it has
@@ -18,10 +18,13 @@ NUMBERED = re.compile(r"\bCQ_(\w+) (\d+)\b")
 ITEM = re.compile(r"^  (CQ_\w+ \d+(?:, CQ_\w+ \d+)*) +(.*(?:\n   .*)*)", re.M)
 SAME = re.compile(r"codes are those of (cq_\w+)(, but for [CQ_\w, ]+)?")
 NO_OTHER = "CQ_OK is its only code"
+NEVER = re.compile(r"never gives CQ_(\w+)")
 OF_THE_CALL = "the code of the call"
 # What the section says that has codes of all its functions.
 IN_COMMON = "may be refused before it reaches the thread"
 ENDED_BY_WAITING = {"BUSY", "HELD", "WAITING", "NONE", "BARRED", "ALREADY_STOPPED", "STILL_RUNNING"}
+# What a call at a thread does not give, since it waits for room.
+ENDED_AT_A_THREAD = {"FULL"}
 TIME = "timeout_ns"
 
 
@@ -75,15 +78,22 @@ class Codes:
         told = {code: said for other in others for code, said in self.of(other).items()}
         if function.name != function.namesake:
             without |= ENDED_BY_WAITING
-            without |= {"FULL"} if self.at_a_thread(function.name) else set()
+            without |= ENDED_AT_A_THREAD if self.at_a_thread(function.name) else set()
         return {code: said for code, said in told.items() if code not in without}
+
+    def may_time_out(self, function):
+        """Whether its time may be over, unless its comment or that of a function with the same codes says never."""
+        comment = api.flat(function.comment)
+        others = [self.functions[other] for other, _ in SAME.findall(comment)]
+        never = {name for one in (function, *others) for name in NEVER.findall(api.flat(one.comment))}
+        return "TIMED_OUT" not in never and any(one.name == TIME for one in function.parameters)
 
     def made_of(self, function):
         if NO_OTHER in api.flat(function.comment):
             return {}
         own, told = self.listed(function.comment, function.name), self.said_elsewhere(function)
         codes = {code: own.get(code) or told.get(code, "") for code in (*told, *own)}
-        if any(one.name == TIME for one in function.parameters):
+        if self.may_time_out(function):
             codes["TIMED_OUT"] = codes.pop("TIMED_OUT", "")
         return codes
 

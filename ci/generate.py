@@ -1,6 +1,6 @@
 #!/usr/bin/env python3
 """Writes what says the same as the headers of the library for C: the names that the shared library exports, declarations of the bindings,
-and the version wherever it stands.
+the page of codes, and the version wherever it stands.
 
     ci/generate.py            writes
     ci/generate.py --check    writes nothing, and fails if a file is not as it would be written
@@ -20,6 +20,7 @@ import api
 import codes
 import header
 import made_c
+import made_page
 import made_python
 import made_rust
 
@@ -28,10 +29,12 @@ WHOLE = {
     "bindings/python/cebdyraq/_api.py": made_python.declarations,
     "bindings/rust/cebdyraq-sys/src/api.rs": made_rust.declarations,
     "c/cebdyraq.map": made_c.exported,
+    "docs/CODES.md": made_page.codes_page,
 }
 # The blocks of a file, by their names.
 BLOCKS = {
     "bindings/rust/cebdyraq/src/error.rs": {"errors": made_rust.errors},
+    "c/cebdyraq.hpp": {"enums": made_c.cxx_enums},
 }
 
 

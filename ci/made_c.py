@@ -52,3 +52,12 @@ def exported(table):
         text += f"\n{name} {{\n    global: {' '.join(f'{one};' for one in names)}\n}} {before};\n"
         before = name
     return text
+
+
+def cxx_enums(table):
+    """The enums of the header for C++."""
+    made = []
+    for enum in map(table.enum, ("cq_code", "cq_reason", "cq_lines_kind")):
+        names = ",\n".join(f"    {one.name.removeprefix(stem(enum)).lower()} = {one.name}" for one in enum.constants)
+        made.append(f"/* {enum.comment} */\nenum class {enum.name.removeprefix('cq_')} : std::uint32_t {{\n{names}\n}};\n")
+    return "\n".join(made)

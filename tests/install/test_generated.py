@@ -1,15 +1,20 @@
 """What is generated from the headers (ci/generate.py), and which mistakes are refused, each made in a copy."""
 
+import re
 import shutil
 import sys
 import unittest
 
+import api
+import codes
 import header
-from installed import TOP, new_folder, run
+from installed import HERE, TOP, new_folder, run
 
 PARTS = ("bindings", "c", "ci", "docs")
 H, WAIT_H = "c/cebdyraq.h", "c/cebdyraq_wait.h"
 MAJOR, MINOR, PATCH = header.version()
+# How a program of tests/c says which code a function gives.
+GOT = (re.compile(r'\{ "(cq_\w+)", CQ_(\w+),'), re.compile(r"SAME\((cq_\w+)\((?:[^()]|\([^()]*\))*\), CQ_(\w+)\)"))
 # A mistake: in which file, what becomes of what, and what is said.
 MISTAKES = (
     ("a prototype that was changed", H, "cq_enter(cq_thread *thread, uint32_t method)", "cq_enter(cq_thread *thread, uint64_t method)",
@@ -61,3 +66,29 @@ class Generated(unittest.TestCase):
         run(sys.executable, made / "ci/generate.py", "--check")
         for name in ("bindings/python/cebdyraq/_api.py", "bindings/rust/cebdyraq-sys/src/api.rs", "c/cebdyraq.map"):
             self.assertIn("cq_comes", (made / name).read_text())
+
+
+class Witnesses(unittest.TestCase):
+    """What is written by hand a second time, so that a mistake in the headers is found."""
+
+    def test_layout_has_each_number_and_each_place(self):
+        table, text = api.read(), (HERE / "layout.c").read_text()
+        for enum in table.enums:
+            for one in enum.constants:
+                self.assertIn(f"NUMBER({one.name}, ", text)
+        for struct in table.structs:
+            if struct.members:
+                self.assertIn(f"SIZE({struct.name}, ", text)
+            for one in (struct.members or []) if not struct.opaque else []:
+                self.assertIn(f"PLACE({struct.name}, {one.name}, ", text)
+
+    def test_codes_that_the_programs_of_tests_c_get_are_listed(self):
+        known, found = codes.Codes(api.read()), set()
+        for path in (TOP / "tests/c").glob("*.c"):
+            for form in GOT:
+                found.update(form.findall(path.read_text()))
+        found = {(name, code) for name, code in found if code not in ("OK", "MISUSED")}
+        self.assertGreater(len(found), 100)
+        for name, code in sorted(found):
+            in_common = known.in_common() if known.at_a_thread(name) else {}
+            self.assertTrue(code in known.of(name) or code in in_common or known.of_the_call(name), f"{name} gives CQ_{code}")

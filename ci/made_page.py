@@ -1,0 +1,84 @@
+"""What `ci/generate.py` writes for readers: docs/CODES.md."""
+
+import api
+import codes
+import header
+from made_c import SAID
+
+HEAD = """# Codes
+
+{said}
+
+What each code means, and which functions give it. `man 3 cebdyraq` says when. Numbers below 200 are JVM TI 11's.
+
+| Number | Name | When |
+|---|---|---|
+{meanings}
+
+## By function
+
+If several codes fit, a function gives the first of its list, except that BUSY may come before any of them.
+
+- Each function that takes a {handles} also gives 304 MISUSED, before all others{never}.
+- *Calls at a thread* may also give {in_common}. Where `cebdyraq_wait.h` has the call it waits in place of {waits}.
+- *The call's* are the codes of the call whose answer is collected.
+"""
+PART = """
+### {header}
+
+| Function | Codes |
+|---|---|
+{rows}
+
+No other code: {others}.
+"""
+
+
+def listed(names, last=" or "):
+    *before, end = names
+    return f"{', '.join(before)}{last}{end}" if before else end
+
+
+def quoted(names):
+    return [f"`{name}`" for name in names]
+
+
+def meaning(constant):
+    return f"| {constant.number} | {codes.bare(constant)} | {constant.meaning} |"
+
+
+class Page:
+    def __init__(self, table):
+        self.table, self.codes = table, codes.Codes(table)
+
+    def numbered(self, names):
+        return ", ".join(f"{self.codes.numbers[name]} {name}" for name in names)
+
+    def given(self, function):
+        """What a function gives, as a cell of the table."""
+        told = [self.numbered(self.codes.of(function.name))] if self.codes.of(function.name) else []
+        if self.codes.at_a_thread(function.name):
+            told.insert(0, "*Calls at a thread*")
+        if self.codes.of_the_call(function.name):
+            told.append("*The call's*")
+        return "; ".join(told)
+
+    def part(self, name):
+        """The functions of a header that give a code."""
+        functions = [one for one in self.table.functions if one.header == name and one.result == api.Type("uint32_t") and one.parameters]
+        rows = [f"| `{one.name}` | {self.given(one)} |" for one in functions if self.given(one)]
+        return PART.format(header=name, rows="\n".join(rows), others=", ".join(quoted(one.name for one in functions if not self.given(one))))
+
+    def text(self):
+        handles = [one.name for one in self.table.structs if one.members and [member.name for member in one.members] == ["kind", "at"]]
+        never = [one.name for one in self.table.functions if codes.NO_OTHER in api.flat(one.comment)]
+        common = self.codes.in_common()
+        waits = [name for name in common if name in codes.ENDED_BY_WAITING | codes.ENDED_AT_A_THREAD]
+        head = HEAD.format(said=SAID, meanings="\n".join(map(meaning, self.table.enum("cq_code").constants)), handles=listed(quoted(handles)),
+                           never=f", but for {listed(quoted(never))}" if never else "", in_common=self.numbered(common),
+                           waits=listed(f"{self.codes.numbers[name]}" for name in waits))
+        return head + "".join(map(self.part, header.HEADERS))
+
+
+def codes_page(table):
+    return Page(table).text()
