@@ -89,8 +89,8 @@ extern "C" {
 
 /* The version of this header. */
 #define CQ_VERSION_MAJOR 2
-#define CQ_VERSION_MINOR 2
-#define CQ_VERSION_PATCH 4
+#define CQ_VERSION_MINOR 3
+#define CQ_VERSION_PATCH 0
 
 /* The version of the library that the program runs with, as major * 1,000,000 + minor * 1,000 + patch. */
 uint32_t cq_version(void);
@@ -146,13 +146,21 @@ enum cq_code {
                                          threads that an environment may have met, or a count that no process reaches */
     CQ_HELD = 301,                    /* the thread is held at its poll, and returns by cq_back */
     CQ_WAITING = 302,                 /* the call waits for the thread: collect its answer later */
-    CQ_NONE = 303,                    /* there is no event to be told, or no trace */
+    CQ_NONE = 303,                    /* there is nothing of the kind: no event, stop, trace, cancelled call, connection or question */
     CQ_MISUSED = 304,                 /* the handle is empty, of another kind, or full when an empty one is wanted. Or the
                                          environment gathers a trace, or has none to go on with */
     CQ_POPPED = 305,                  /* all frames are to be set, and frames were popped that the runtime has not taken note
                                          of (cq_take_pops) */
     CQ_SYSTEM = 306                   /* the operating system refused; errno says why */
 };
+
+/* The name of a code, as in "CQ_BUSY". `code` is any number: if it is no code of this library, the name is "unknown". The text is
+ * static: it never changes, and nobody frees it. Any thread may call this, at any time. Since 2.3. */
+const char *cq_code_name(uint32_t code);
+
+/* When a code comes, as in "the thread does not run": what stands beside it above, in one line. `code` is any number: if it is no code
+ * of this library, the text is "there is no such code". It is static, and for any thread, as for cq_code_name. Since 2.3. */
+const char *cq_code_text(uint32_t code);
 
 /* Bits of GetThreadState (JVM TI 11). */
 enum cq_state {

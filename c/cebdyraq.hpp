@@ -101,10 +101,15 @@ using stop = cq_stop;
 using time = std::chrono::nanoseconds;
 inline constexpr time forever{-1};
 
-/* A call was refused. `why` says for which reason. */
+/* The name of a code, as in "CQ_BUSY", and when it comes. */
+inline const char *name_of(code which) noexcept { return cq_code_name(std::uint32_t(which)); }
+inline const char *text_of(code which) noexcept { return cq_code_text(std::uint32_t(which)); }
+
+/* A call was refused. `why` says for which reason, and `what` has its number, its name and its text. */
 class error : public std::runtime_error {
 public:
-    explicit error(code why) : std::runtime_error("cebdyraq: code " + std::to_string(std::uint32_t(why))), why_(why) {}
+    explicit error(code why)
+        : std::runtime_error("cebdyraq: " + std::to_string(std::uint32_t(why)) + " " + name_of(why) + ": " + text_of(why)), why_(why) {}
     code why() const noexcept { return why_; }
 
 private:

@@ -33,7 +33,7 @@ HEADERS = (*header.HEADERS, "cebdyraq.hpp")
 SUPPRESSIONS = "tsan.supp"
 # The objects of the library, each with its C files.
 OBJECTS = {
-    "cebdyraq": ("cebdyraq_heap", "cebdyraq_version", "cebdyraq_classes", "cebdyraq_variables"),
+    "cebdyraq": ("cebdyraq_heap", "cebdyraq_version", "cebdyraq_codes", "cebdyraq_classes", "cebdyraq_variables"),
     "cebdyraq_wait": ("cebdyraq_wait",),
     "cebdyraq_serve": ("cebdyraq_serve", "cebdyraq_listen", "cebdyraq_peer"),
 }

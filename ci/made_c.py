@@ -5,6 +5,23 @@ import re
 import header
 
 SAID = "Made from the headers by ci/generate.py. Do not edit."
+CODES = """/* cebdyraq_codes.c: the names and the texts of the codes. {said} */
+#include "cebdyraq.h"
+
+const char *cq_code_name(uint32_t code) {{
+    switch (code) {{
+{names}
+    default: return "unknown";
+    }}
+}}
+
+const char *cq_code_text(uint32_t code) {{
+    switch (code) {{
+{texts}
+    default: return "there is no such code";
+    }}
+}}
+"""
 
 
 def stem(enum):
@@ -61,3 +78,20 @@ def cxx_enums(table):
         names = ",\n".join(f"    {one.name.removeprefix(stem(enum)).lower()} = {one.name}" for one in enum.constants)
         made.append(f"/* {enum.comment} */\nenum class {enum.name.removeprefix('cq_')} : std::uint32_t {{\n{names}\n}};\n")
     return "\n".join(made)
+
+
+def plain(meaning):
+    """What stands beside a code, as a text that programs show."""
+    return meaning.replace("`", "")
+
+
+def quoted(text):
+    """A text as C, Rust and Python write it."""
+    return '"' + text.replace("\\", r"\\").replace('"', r"\"") + '"'
+
+
+def codes_file(table):
+    codes = table.enum("cq_code").constants
+    names = "\n".join(f"    case {one.name}: return {quoted(one.name)};" for one in codes)
+    texts = "\n".join(f"    case {one.name}: return {quoted(plain(one.meaning))};" for one in codes)
+    return CODES.format(said=SAID, names=names, texts=texts)

@@ -9,7 +9,7 @@ HEAD = """# Codes
 
 {said}
 
-What each code means, and which functions give it. `man 3 cebdyraq` says when. Numbers below 200 are JVM TI 11's.
+What each code means, and which functions give it. `man 3 cebdyraq` says when. Numbers below 200 are JVM TI 11's. `cq_code_name` and `cq_code_text` tell a program what stands here.
 
 | Number | Name | When |
 |---|---|---|

@@ -3,7 +3,7 @@
 import re
 
 import api
-from made_c import SAID, stem
+from made_c import SAID, plain, quoted, stem
 
 NUMBERS = {"uint8_t": "U8", "uint16_t": "U16", "uint32_t": "U32", "uint64_t": "U64", "int32_t": "I32", "int64_t": "I64",
            "size_t": "SIZE", "bool": "BOOL", "double": "DOUBLE"}
@@ -21,6 +21,14 @@ from ._types import {types}
 VERSION = {version}
 
 '''
+TEXTS_OF_CODES = '''
+    @property
+    def text(self) -> str:
+        """When the code comes."""
+        return TEXTS[self]
+
+
+TEXTS: Dict[int, str] = {'''
 
 
 def class_of(name):
@@ -50,6 +58,10 @@ def enum_of(enum):
     yield from (f'    """{first_sentence(enum.comment)}"""', "")
     for one in enum.constants:
         yield f"    {one.name.removeprefix(stem(enum))} = {one.text}"
+    if enum.name == "cq_code":
+        yield from TEXTS_OF_CODES.split("\n")
+        yield from (f"    {one.number}: {quoted(plain(one.meaning))}," for one in enum.constants)
+        yield "}"
     yield from ("", "")
 
 

@@ -113,6 +113,14 @@ class WithRuntime(unittest.TestCase):
         with self.assertRaises(ctypes.ArgumentError):
             env.get_frame_count(2**32)
 
+    def test_codes_in_words(self):
+        self.assertEqual(str(Error(15)), "15 THREAD_NOT_ALIVE: the thread has not started, or has ended")
+        self.assertEqual(Code.TIMED_OUT.text, "the time is over")
+        for code in Code:
+            self.assertEqual(self.library.cq_code_name(code), f"CQ_{code.name}".encode())
+            self.assertEqual(self.library.cq_code_text(code), code.text.encode())
+        self.assertEqual(self.library.cq_code_name(999), b"unknown")
+
     def test_a_native_thread(self):
         self.library.runtime_go_native()
         self.assertEqual(self.env.get_thread_state(self.thread), 0x400005)

@@ -112,6 +112,14 @@ void is_disposed_of_by_name() {
     SAME(code::system, CQ_SYSTEM);
 }
 
+// A refusal tells its code by number, by name and in words.
+void a_refusal_is_told_in_words() {
+    CHECK(std::string(cebdyraq::error(code::busy).what()) == "cebdyraq: 215 CQ_BUSY: another thread uses it at this moment: call again");
+    CHECK(std::string(cebdyraq::error(code(999)).what()) == "cebdyraq: 999 unknown: there is no such code");
+    CHECK(std::string(cebdyraq::name_of(code::timed_out)) == "CQ_TIMED_OUT");
+    CHECK(std::string(cebdyraq::text_of(code::timed_out)) == "the time is over");
+}
+
 }  // namespace
 
 int main() {
@@ -121,5 +129,6 @@ int main() {
     returns_where_it_was_moved_to();
     tells_what_was_cancelled();
     is_disposed_of_by_name();
+    a_refusal_is_told_in_words();
     return 0;
 }

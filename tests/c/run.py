@@ -23,6 +23,7 @@ WAIT = [C / "cebdyraq_wait.c"]
 HEAP = [C / "cebdyraq_heap.c"]
 COUNTED_HEAP = [HERE / "counted_heap.c"]
 STRINGS = [C / "cebdyraq_classes.c"]
+NAMES = [C / "cebdyraq_codes.c"]
 VERSION = [C / "cebdyraq_version.c"]
 VARIABLES = [C / "cebdyraq_variables.c"]
 SERVE = [C / name for name in ("cebdyraq_serve.c", "cebdyraq_listen.c", "cebdyraq_peer.c")] + VARIABLES
@@ -55,6 +56,7 @@ PROGRAMS = [
     Program("life", ["life.c"], COUNTED_HEAP),
     Program("successor", ["successor.c"], COUNTED_HEAP),
     Program("codes", CODES, COUNTED_HEAP),
+    Program("names", ["names.c"], NAMES, wait=[]),
     Program("classes", CLASSES, COUNTED_HEAP + STRINGS, wait=[]),
     Program("pops", ["pops.c", "pops_unwound.c"], COUNTED_HEAP),
     Program("stops", ["stops.c", "stops_threads.c"], COUNTED_HEAP + STRINGS),
@@ -70,8 +72,8 @@ PROGRAMS = [
     Program("poll_word", ["poll_word.c"], HEAP, {VALGRIND: ["100"]}),
     Program("green", ["green.c"], COUNTED_HEAP, {THREAD: ["512"], VALGRIND: ["128"]}),
     Program("meet_on", ["meet_on.c"], COUNTED_HEAP, {VALGRIND: ["1"]}, wait=[]),
-    Program("cxx", ["cxx.cpp"], HEAP),
-    Program("objects", ["objects.cpp"], HEAP + VERSION),
+    Program("cxx", ["cxx.cpp"], HEAP + NAMES),
+    Program("objects", ["objects.cpp"], HEAP + VERSION + NAMES),
     Program("door", ["door.c", "door_random.c"], COUNTED_HEAP, {ADDRESS: ["20000"], THREAD: ["5000"], VALGRIND: ["300"]}, wait=[]),
     Program("serve", SERVED, HEAP + STRINGS + SERVE, {VALGRIND: ["quick"]}),
     Program("tells", ["tells.c"], COUNTED_HEAP + VARIABLES, wait=[]),
@@ -205,12 +207,13 @@ def report_without_exceptions(archive):
     """The header for C++ without exceptions: a call that is refused ends the program. No name in it hides another."""
     with tempfile.TemporaryDirectory() as name:
         folder = pathlib.Path(name)
-        parts = [built_plain(source, folder) for source in WAIT + HEAP + VERSION]
+        parts = [built_plain(source, folder) for source in WAIT + HEAP + VERSION + NAMES]
         made = str(folder / "no_exceptions")
         built = run([compiler(True), *flags(PLAIN), "-std=c++17", "-Wshadow", "-fno-exceptions", str(HERE / "no_exceptions.cpp"), *parts,
                      str(archive), "-lpthread", "-o", made])
         right, wrong = (run([made, *words], timeout=LONGEST) for words in ([], ["twice"])) if built.returncode == 0 else (built, built)
-    passed = (right.returncode, right.stdout) == (0, "") and (wrong.returncode, wrong.stdout) == (-signal.SIGABRT, "cebdyraq: code 210\n")
+    refusal = "cebdyraq: 210 CQ_NOT_NEW: a start of a thread that has started\n"
+    passed = (right.returncode, right.stdout) == (0, "") and (wrong.returncode, wrong.stdout) == (-signal.SIGABRT, refusal)
     print("the header for C++ without exceptions: " + ("passed" if passed else "FAILED"))
     if not passed:
         print(right.stdout + wrong.stdout, flush=True)

@@ -6,7 +6,7 @@ from typing import Any, Dict, List, Tuple
 
 from ._types import AT, BOOL, DOUBLE, I32, I64, INT, NUMBER, SIZE, TEXT, U32, U64, WORD
 
-VERSION = (2, 2)
+VERSION = (2, 3)
 
 ALL_THREADS = 4294967295
 DOOR_CONNECTIONS = 16
@@ -54,6 +54,54 @@ class Code(enum.IntEnum):
     MISUSED = 304
     POPPED = 305
     SYSTEM = 306
+
+    @property
+    def text(self) -> str:
+        """When the code comes."""
+        return TEXTS[self]
+
+
+TEXTS: Dict[int, str] = {
+    0: "it is done, or the answer is there",
+    10: "there is no thread of this number, or the environment has not met it",
+    13: "a resumption or a pop, and the thread is not suspended; or the end of a stop, and it does not stop for the environment",
+    14: "a suspension, and the thread is suspended",
+    15: "the thread has not started, or has ended",
+    21: "no class of this number was defined",
+    23: "no method of this number was defined",
+    24: "there can be no breakpoint at this location of the method",
+    31: "there is no frame at this depth, or there are fewer than two for a pop",
+    32: "a pop, and one of the two newest frames is native",
+    40: "the environment has this breakpoint, or asked for this pop, before",
+    41: "the environment has no such breakpoint",
+    98: "a capability that cannot be had",
+    99: "the call needs a capability that the environment does not have",
+    101: "the class has no source file, or the method no lines",
+    103: "an argument is out of its range",
+    104: "a native method has no lines",
+    110: "there is no memory for it",
+    201: "the stack has as many frames as the service's depth",
+    202: "a step needs a frame, and there is none",
+    203: "a new location for a native frame",
+    204: "the thread does not run",
+    205: "a return of a thread that is not native, blocked or held",
+    206: "the thread is suspended or stopped, and may not start or return",
+    207: "a hand-over to native code, and the newest frame is not native",
+    208: "the thread has spent its 2^59 steps",
+    209: "the environment has spent its 2^52 calls at the thread",
+    210: "a start of a thread that has started",
+    211: "another environment's trace has stopped the thread: call again later",
+    213: "a thread of the trace has not come to its next poll: call again later",
+    214: "the time is over",
+    215: "another thread uses it at this moment: call again",
+    216: "a bound other than memory leaves no room for it: the window, envs, the 65,536 threads that an environment may have met, or a count that no process reaches",
+    301: "the thread is held at its poll, and returns by cq_back",
+    302: "the call waits for the thread: collect its answer later",
+    303: "there is nothing of the kind: no event, stop, trace, cancelled call, connection or question",
+    304: "the handle is empty, of another kind, or full when an empty one is wanted. Or the environment gathers a trace, or has none to go on with",
+    305: "all frames are to be set, and frames were popped that the runtime has not taken note of (cq_take_pops)",
+    306: "the operating system refused; errno says why",
+}
 
 
 class State(enum.IntFlag):
@@ -260,6 +308,8 @@ class Server(ctypes.Structure):
 # The result and the arguments of each function. A pointer is a void pointer here.
 FUNCTIONS: Dict[str, Tuple[Any, List[Any]]] = {
     "cq_version": (U32, []),
+    "cq_code_name": (TEXT, [NUMBER]),
+    "cq_code_text": (TEXT, [NUMBER]),
     "cq_set_heap": (U32, [ctypes.CFUNCTYPE(AT, SIZE), ctypes.CFUNCTYPE(AT, AT, SIZE), ctypes.CFUNCTYPE(None, AT)]),
     "cq_make": (U32, [NUMBER, NUMBER, NUMBER, NUMBER, AT]),
     "cq_share": (U32, [AT, AT]),

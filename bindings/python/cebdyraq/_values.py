@@ -12,7 +12,7 @@ class Error(Exception):
 
     def __init__(self, code: int) -> None:
         self.code = Code(code)
-        super().__init__(f"{self.code.value} {self.code.name}")
+        super().__init__(f"{self.code.value} {self.code.name}: {self.code.text}")
 
 
 class Frame(NamedTuple):

@@ -5,7 +5,7 @@ use core::ptr::null_mut;
 
 // The version whose functions are declared here.
 pub const CQ_VERSION_MAJOR: u32 = 2;
-pub const CQ_VERSION_MINOR: u32 = 2;
+pub const CQ_VERSION_MINOR: u32 = 3;
 
 // cq_code
 /// It is done, or the answer is there.
@@ -78,7 +78,7 @@ pub const CQ_FULL: u32 = 216;
 pub const CQ_HELD: u32 = 301;
 /// The call waits for the thread: collect its answer later.
 pub const CQ_WAITING: u32 = 302;
-/// There is no event to be told, or no trace.
+/// There is nothing of the kind: no event, stop, trace, cancelled call, connection or question.
 pub const CQ_NONE: u32 = 303;
 /// The handle is empty, of another kind, or full when an empty one is wanted. Or the environment gathers a trace, or has none to go on with.
 pub const CQ_MISUSED: u32 = 304;
@@ -492,6 +492,8 @@ impl Default for cq_server {
 extern "C" {
     // cebdyraq.h
     pub fn cq_version() -> u32;
+    pub fn cq_code_name(code: u32) -> *const c_char;
+    pub fn cq_code_text(code: u32) -> *const c_char;
     pub fn cq_set_heap(
         allocate: unsafe extern "C" fn(usize) -> *mut c_void,
         resize: unsafe extern "C" fn(*mut c_void, usize) -> *mut c_void,

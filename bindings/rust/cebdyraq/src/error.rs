@@ -1,4 +1,5 @@
 use cebdyraq_sys as sys;
+use std::ffi::{c_char, CStr};
 use std::fmt;
 
 macro_rules! errors {
@@ -79,9 +80,33 @@ errors! {
 }
 // end of errors
 
+impl Error {
+    /// The name of its code in C, as in `CQ_THREAD_NOT_ALIVE`.
+    pub fn name(self) -> &'static str {
+        // SAFETY: it takes any number.
+        static_text(unsafe { sys::cq_code_name(self as u32) })
+    }
+
+    /// When it comes, as in `the thread has not started, or has ended`.
+    pub fn text(self) -> &'static str {
+        text_of(self as u32)
+    }
+}
+
+/// When a code comes.
+fn text_of(code: u32) -> &'static str {
+    // SAFETY: it takes any number.
+    static_text(unsafe { sys::cq_code_text(code) })
+}
+
+fn static_text(text: *const c_char) -> &'static str {
+    // SAFETY: the library's texts end with a 0, never change and are never freed.
+    unsafe { CStr::from_ptr(text) }.to_str().expect("a text is UTF-8")
+}
+
 impl fmt::Display for Error {
     fn fmt(&self, f: &mut fmt::Formatter<'_>) -> fmt::Result {
-        write!(f, "{} {:?}", *self as u32, self)
+        write!(f, "{} {:?}: {}", *self as u32, self, self.text())
     }
 }
 
@@ -96,7 +121,7 @@ pub(crate) fn checked(code: u32) -> Result<(), Error> {
     match (code, Error::of(code)) {
         (sys::CQ_OK, _) => Ok(()),
         (_, Some(error)) => Err(error),
-        (_, None) => panic!("cebdyraq gave the code {code}"),
+        (_, None) => panic!("cebdyraq gave the code {code}: {}", text_of(code)),
     }
 }
 
@@ -106,5 +131,5 @@ pub(crate) fn checked(code: u32) -> Result<(), Error> {
 ///
 /// If it is.
 pub(crate) fn surely(code: u32) {
-    assert_eq!(code, sys::CQ_OK, "cebdyraq refused a call that cannot be refused");
+    assert_eq!(code, sys::CQ_OK, "cebdyraq refused a call that cannot be refused: {}", text_of(code));
 }

@@ -70,6 +70,13 @@ fn a_running_thread_answers_at_its_polls() {
 }
 
 #[test]
+fn an_error_is_told_in_words() {
+    assert_eq!(Error::ThreadNotAlive.to_string(), "15 ThreadNotAlive: the thread has not started, or has ended");
+    assert_eq!(Error::TimedOut.name(), "CQ_TIMED_OUT");
+    assert_eq!(Error::TimedOut.text(), "the time is over");
+}
+
+#[test]
 fn a_suspended_thread_stays() {
     let (_service, mut running, mut env) = with_thread();
     running.set_frames(&[Frame { method: 2, location: 5 }, Frame { method: 1, location: 9 }]).unwrap();
