@@ -51,6 +51,16 @@ class Constant:
     text: str
     meaning: str
 
+    @property
+    def bare(self):
+        """CQ_BUSY as BUSY."""
+        return self.name.removeprefix("CQ_")
+
+    @property
+    def plain(self):
+        """Its meaning as a text that programs show."""
+        return self.meaning.replace("`", "")
+
 
 @dataclass(frozen=True)
 class Enum:
@@ -60,6 +70,12 @@ class Enum:
     constants: List[Constant]
     comment: str
     bits: bool
+
+    def short(self, constant):
+        """The name of one of its constants, without what all of them begin with, up to an underscore."""
+        names = [one.name for one in self.constants]
+        length = next(at for at, signs in enumerate(zip(*names)) if len(set(signs)) > 1)
+        return constant.name[names[0].rindex("_", 0, length) + 1:]
 
 
 @dataclass(frozen=True)
@@ -123,6 +139,11 @@ BASES = {"void", "char", "bool", "double", "size_t", "int32_t", "int64_t", "uint
 
 def flat(text):
     return " ".join(text.split())
+
+
+def camel(name):
+    """cq_thread_info as ThreadInfo, and so CQ_BUSY as Busy."""
+    return "".join(word.capitalize() for word in name.lower().removeprefix("cq_").split("_"))
 
 
 def outer_parts(text):

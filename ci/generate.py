@@ -117,7 +117,7 @@ def main(words):
     try:
         files = generated(api.read())
     except (SyntaxError, ValueError) as why:
-        sys.exit(f"the headers are not read: {why}")
+        sys.exit(f"refused: {why}")
     return 0 if (check if words else write)(files) else 1
 
 

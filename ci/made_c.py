@@ -24,13 +24,6 @@ const char *cq_code_text(uint32_t code) {{
 """
 
 
-def stem(enum):
-    """What the names of an enum's constants have in common, up to an underscore."""
-    names = [one.name for one in enum.constants]
-    length = next(at for at, signs in enumerate(zip(*names)) if len(set(signs)) > 1)
-    return names[0][:names[0].rindex("_", 0, length) + 1]
-
-
 def numbers(text):
     return tuple(map(int, text.split(".")))
 
@@ -75,23 +68,18 @@ def cxx_enums(table):
     """The enums of the header for C++."""
     made = []
     for enum in map(table.enum, ("cq_code", "cq_reason", "cq_lines_kind")):
-        names = ",\n".join(f"    {one.name.removeprefix(stem(enum)).lower()} = {one.name}" for one in enum.constants)
+        names = ",\n".join(f"    {enum.short(one).lower()} = {one.name}" for one in enum.constants)
         made.append(f"/* {enum.comment} */\nenum class {enum.name.removeprefix('cq_')} : std::uint32_t {{\n{names}\n}};\n")
     return "\n".join(made)
 
 
-def plain(meaning):
-    """What stands beside a code, as a text that programs show."""
-    return meaning.replace("`", "")
-
-
 def quoted(text):
-    """A text as C, Rust and Python write it."""
+    """A text as C and Python write it."""
     return '"' + text.replace("\\", r"\\").replace('"', r"\"") + '"'
 
 
 def codes_file(table):
     codes = table.enum("cq_code").constants
     names = "\n".join(f"    case {one.name}: return {quoted(one.name)};" for one in codes)
-    texts = "\n".join(f"    case {one.name}: return {quoted(plain(one.meaning))};" for one in codes)
+    texts = "\n".join(f"    case {one.name}: return {quoted(one.plain)};" for one in codes)
     return CODES.format(said=SAID, names=names, texts=texts)

@@ -44,7 +44,7 @@ def quoted(names):
 
 
 def meaning(constant):
-    return f"| {constant.number} | {codes.bare(constant)} | {constant.meaning} |"
+    return f"| {constant.number} | {constant.bare} | {constant.meaning} |"
 
 
 class Page:

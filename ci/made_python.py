@@ -3,7 +3,7 @@
 import re
 
 import api
-from made_c import SAID, plain, quoted, stem
+from made_c import SAID, quoted
 
 NUMBERS = {"uint8_t": "U8", "uint16_t": "U16", "uint32_t": "U32", "uint64_t": "U64", "int32_t": "I32", "int64_t": "I64",
            "size_t": "SIZE", "bool": "BOOL", "double": "DOUBLE"}
@@ -31,11 +31,6 @@ TEXTS_OF_CODES = '''
 TEXTS: Dict[int, str] = {'''
 
 
-def class_of(name):
-    """cq_thread_info as ThreadInfo."""
-    return "".join(word.capitalize() for word in name.removeprefix("cq_").split("_"))
-
-
 def first_sentence(comment):
     return re.match(r".*?[.:](?= |$)|.*", api.flat(comment))[0].rstrip(".:") + "."
 
@@ -49,18 +44,18 @@ def type_of(kind, words=NUMBERS, text="AT"):
         return text if kind.base == "char" else "AT"
     if kind.base == "void":
         return "None"
-    name = words.get(kind.base) or NUMBERS.get(kind.base) or class_of(kind.base)
+    name = words.get(kind.base) or NUMBERS.get(kind.base) or api.camel(kind.base)
     return f"{name} * {kind.count}" if kind.count else name
 
 
 def enum_of(enum):
-    yield f"class {class_of(enum.name)}(enum.{'IntFlag' if enum.bits else 'IntEnum'}):"
+    yield f"class {api.camel(enum.name)}(enum.{'IntFlag' if enum.bits else 'IntEnum'}):"
     yield from (f'    """{first_sentence(enum.comment)}"""', "")
     for one in enum.constants:
-        yield f"    {one.name.removeprefix(stem(enum))} = {one.text}"
+        yield f"    {enum.short(one)} = {one.text}"
     if enum.name == "cq_code":
         yield from TEXTS_OF_CODES.split("\n")
-        yield from (f"    {one.number}: {quoted(plain(one.meaning))}," for one in enum.constants)
+        yield from (f"    {one.number}: {quoted(one.plain)}," for one in enum.constants)
         yield "}"
     yield from ("", "")
 
@@ -71,7 +66,7 @@ def struct_of(struct):
         if one.type.signature:
             yield from (f"{one.name.upper()} = {type_of(one.type)}", "", "")
     fields = [f'("{one.name}", {one.name.upper() if one.type.signature else type_of(one.type)})' for one in struct.members]
-    yield f"class {class_of(struct.name)}(ctypes.Structure):"
+    yield f"class {api.camel(struct.name)}(ctypes.Structure):"
     line = f"    _fields_ = [{', '.join(fields)}]"
     yield from [line] if len(line) <= WIDTH else ["    _fields_ = [", *(f"        {one}," for one in fields), "    ]"]
     yield from ("", "")
@@ -84,7 +79,7 @@ def function_of(function):
 
 def declarations(table):
     """All that the headers declare."""
-    lines = [f"{one.name.removeprefix('CQ_')} = {one.number}" for enum in table.enums if not enum.name for one in enum.constants]
+    lines = [f"{one.bare} = {one.number}" for enum in table.enums if not enum.name for one in enum.constants]
     lines += ["", ""]
     for enum in table.named():
         lines += enum_of(enum)

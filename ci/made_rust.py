@@ -109,6 +109,5 @@ def errors(table):
     lines = ["errors! {"]
     for one in table.enum("cq_code").constants:
         if one.name not in RULED_OUT:
-            name = "".join(word.capitalize() for word in one.name.removeprefix("CQ_").split("_"))
-            lines += [f"    /// {sentence(one.meaning)}", f"    {name} = {one.name}"]
+            lines += [f"    /// {sentence(one.meaning)}", f"    {api.camel(one.name)} = {one.name}"]
     return "\n".join(lines) + "\n}\n"
