@@ -24,7 +24,8 @@
  * CODES
  *
  * A function returns CQ_OK, or a code of its list that fits. If several fit, it is the first of the list, except that
- * CQ_BUSY may come before any of them. Codes below 200 are errors of JVM TI 11, with its numbers.
+ * CQ_BUSY may come before any of them. Codes below 200 are errors of JVM TI 11, with its numbers. cq_code_name and cq_code_text put a
+ * code into words.
  *
  * With any code but CQ_OK, CQ_HELD and CQ_WAITING nothing has changed and nothing is written, unless the function says more.
  *
