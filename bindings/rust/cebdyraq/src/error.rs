@@ -83,8 +83,8 @@ errors! {
 impl Error {
     /// The name of its code in C, as in `CQ_THREAD_NOT_ALIVE`.
     pub fn name(self) -> &'static str {
-        // SAFETY: it takes any number.
-        static_text(unsafe { sys::cq_code_name(self as u32) })
+        // SAFETY: it takes any number, and its text is static.
+        unsafe { static_text(sys::cq_code_name(self as u32)) }
     }
 
     /// When it comes, as in `the thread has not started, or has ended`.
@@ -95,13 +95,15 @@ impl Error {
 
 /// When a code comes.
 fn text_of(code: u32) -> &'static str {
-    // SAFETY: it takes any number.
-    static_text(unsafe { sys::cq_code_text(code) })
+    // SAFETY: it takes any number, and its text is static.
+    unsafe { static_text(sys::cq_code_text(code)) }
 }
 
-fn static_text(text: *const c_char) -> &'static str {
-    // SAFETY: the library's texts end with a 0, never change and are never freed.
-    unsafe { CStr::from_ptr(text) }.to_str().expect("a text is UTF-8")
+/// # Safety
+///
+/// The text ends with a 0, never changes and is never freed.
+unsafe fn static_text(text: *const c_char) -> &'static str {
+    CStr::from_ptr(text).to_str().expect("a text is UTF-8")
 }
 
 impl fmt::Display for Error {
