@@ -33,7 +33,7 @@ test:
 	python3 ci/proved.py
 	python3 ci/generate.py --check
 	python3 ci/doc_examples.py
-	python3 ci/gate.py
+	python3 ci/gate.py $(JUNIT)
 
 examples:
 	python3 ci/cases.py --examples

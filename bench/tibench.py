@@ -5,9 +5,8 @@
     bench/tibench.py --try      compiles it with nothing proved, and has it do each of its parts with small numbers
     bench/tibench.py --fmt      lays its files out
 
-It promises nothing to anybody, so the gate does not prove it: the gate tries it. The last line of that is
-'N passed, M failed'. A file there has the ending .rattle, because `rt ci` refuses a .rt or an .antt file outside crates/. What
-stands in specs/ and proofs/ are definitions and proofs.
+It promises nothing to anybody, so the gate does not prove it: the gate tries it, which writes TAP. A file there has the ending .rattle,
+because `rt ci` refuses a .rt or an .antt file outside crates/. What stands in specs/ and proofs/ are definitions and proofs.
 """
 
 import pathlib
@@ -20,6 +19,7 @@ sys.dont_write_bytecode = True
 TOP = pathlib.Path(__file__).resolve().parent.parent
 sys.path.insert(0, str(TOP / "ci"))
 
+import tap
 import unproved
 
 NAME = "tibench"
@@ -52,15 +52,12 @@ def ill_laid(folder):
 
 def try_it(folder):
     """Whether it compiles, does all of its parts, and is laid out."""
-    ill = ill_laid(folder)
-    for file, _ in ill:
-        print(f"{file}: not laid out: bench/tibench.py --fmt does it")
+    told = tap.Tap()
+    told.result("laid out", "\n".join(f"{file}: bench/tibench.py --fmt does it" for file, _ in ill_laid(folder)))
     done = subprocess.run(["rt", "try", "--", "try"], cwd=folder, stdout=subprocess.PIPE, stderr=subprocess.STDOUT, text=True)
-    well = not done.returncode and LINES in done.stdout
-    if not well:
-        print(done.stdout, end="")
-    print(f"{int(well)} passed, {int(not well) + len(ill)} failed")
-    return 0 if well and not ill else 1
+    does_all = not done.returncode and LINES in done.stdout
+    told.result("does each of its parts", "" if does_all else f"status {done.returncode}\n{done.stdout}")
+    return told.end()
 
 
 def build(folder):

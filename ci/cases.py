@@ -2,8 +2,7 @@
 """Runs `tiwalk` and `tilint` on each case, and compares standard output, standard error and status with what it wants.
 
 The cases are the documents of `tests/cases` and `examples/`, those that are made (`ci/made_cases.py`), and the ends of a
-process that no document shows (`ci/process_ends.py`). What they want was worked out from the rules. The last line is
-'N passed, M failed'.
+process that no document shows (`ci/process_ends.py`). What they want was worked out from the rules. It writes TAP.
 
     ci/cases.py [PROGRAM..]     crates/tiwalk/out/tiwalk by default (`make run` builds it), and crates/tilint/out/tilint if built
     ci/cases.py --examples      the documents of `examples/` alone
@@ -27,6 +26,7 @@ sys.dont_write_bytecode = True
 import coverage_of_cases
 import made_cases
 import process_ends
+import tap
 
 PROGRAM = "crates/tiwalk/out/tiwalk"
 LINT = "crates/tilint/out/tilint"
@@ -104,44 +104,40 @@ def lint_cases():
     return stored_cases("lint", "walk")
 
 
-def passes(case, program):
+def fault_of(case, program):
+    """What is wrong with what a program makes of a case, or None."""
     try:
-        what = difference(case.wanted, case.run(program))
+        return difference(case.wanted, case.run(program))
     except (OSError, subprocess.TimeoutExpired) as error:
-        what = str(error)
-    if what:
-        print(f"{case.name}: {what}")
-    return not what
+        return str(error)
 
 
-def run_all(program, only_examples=False):
-    """How many cases passed and how many failed."""
-    if not os.path.isfile(program):
-        print(f"there is no {program}: `make run` builds it")
-        return 0, 1
+def run_all(told, program, only_examples=False):
     program = os.path.abspath(program)
+    if not os.path.isfile(program):
+        sys.exit(f"there is no {program}: `make run` builds it")
     if os.path.basename(program).startswith("tilint"):
         cases = [*lint_cases(), *process_ends.LINT_ENDS]
     elif only_examples:
         cases = list(examples())
     else:
         cases = [*walk_cases(), *examples(), *made(), *process_ends.ENDS]
-    passed = sum(passes(case, program) for case in cases)
-    return passed, len(cases) - passed
+    for case in cases:
+        told.result(f"{os.path.basename(program)}: {case.name}", fault_of(case, program))
 
 
 def main():
     words = sys.argv[1:]
+    programs = [word for word in words if word != "--examples"] or [PROGRAM]
+    if not words and os.path.isfile(LINT):
+        programs.append(LINT)
+    told = tap.Tap()
     if words == ["--covered"]:
-        passed, failed = coverage_of_cases.count([*walk_cases(), *examples(), *made(), *process_ends.ENDS], list(lint_cases()))
-    else:
-        programs = [word for word in words if word != "--examples"] or [PROGRAM]
-        if not words and os.path.isfile(LINT):
-            programs.append(LINT)
-        counts = [run_all(program, "--examples" in words) for program in programs]
-        passed, failed = map(sum, zip(*counts))
-    print(f"{passed} passed, {failed} failed")
-    return 1 if failed or not passed else 0
+        coverage_of_cases.tell(told, [*walk_cases(), *examples(), *made(), *process_ends.ENDS], list(lint_cases()))
+        return told.end()
+    for program in programs:
+        run_all(told, program, "--examples" in words)
+    return told.end()
 
 
 if __name__ == "__main__":

@@ -1,4 +1,4 @@
-"""Which words, texts and faults of the definitions no case has.
+"""Whether each word, text and fault of the definitions is in a case.
 
 The words are read off the definitions (`codes "WORD"` in the files of `specs/`), so that a new one wants a case too.
 """
@@ -107,18 +107,12 @@ def found_in(cases, lint_cases):
     return found
 
 
-def count(cases, lint_cases):
-    """How many words have a case, and how many have none, each of which is named."""
+def tell(told, cases, lint_cases):
     found = found_in(cases, lint_cases)
-    passed = failed = 0
     for table in SPECS:
         wanted = words_of(table) | (set(KINDS) if table == "entries" else set())
         wanted -= {word for of, word in NOT_REACHED if of == table}
-        missing = sorted(wanted - found[table])
-        passed, failed = passed + len(wanted) - len(missing), failed + len(missing)
-        for word in missing:
-            print(f"no case has {word!r} of {SPECS[table]}")
+        for word in sorted(wanted):
+            told.result(f"{SPECS[table]}: {word!r} is in a case", "" if word in found[table] else "it is in none")
         if not wanted:
-            print(f"{SPECS[table]} has no word that is found so")
-            failed += 1
-    return passed, failed
+            told.not_ok(f"{SPECS[table]} has words that are found so")

@@ -11,17 +11,16 @@ The examples become the tests of one crate, in a copy of the crates (`ci/unprove
 no condition of a call (`requires`). Each example has a file of its own there, and keeps the lines and columns that it has in
 its source. So what is said of a place is shown as said of the source.
 
-There is a line for each example, and one for each type of TYPES that has none. The last line is 'N examples ran, M failed',
-and the status is 0 exactly if M is 0.
+It writes TAP, with a test for each example, and for each type of TYPES.
 """
 
-import pathlib
 import re
 import sys
 from collections import namedtuple
 
 sys.dont_write_bytecode = True
 
+import tap
 import unproved
 
 NAME = "doc_examples"
@@ -75,10 +74,11 @@ def examples_of(source):
     return found
 
 
-def types_without(examples):
-    """The types that need an example and have none."""
+def tell_types(told, examples):
+    """Tells which types have the example that they need."""
     there = {(example.source.parts[1], example.item) for example in examples}
-    return [f"{unproved.CRATES / crate}: {name}" for crate, names in TYPES.items() for name in names if (crate, name) not in there]
+    for crate, name in ((crate, name) for crate, names in TYPES.items() for name in names):
+        told.result(f"{unproved.CRATES / crate}: {name} has an example", "" if (crate, name) in there else "it has none")
 
 
 def text_of(example):
@@ -102,18 +102,15 @@ def main():
     if len(sys.argv) > 1:
         sys.exit(__doc__.strip())
     examples = [example for source in sorted(unproved.CRATES.glob("*/src/**/*.rt")) for example in examples_of(source)]
-    missing = types_without(examples)
+    told = tap.Tap()
+    tell_types(told, examples)
     said, words = run(examples) if examples else ("", {})
-    ran = list(words.values()).count("ran")
-    if ran < len(examples):
-        print(said, end="")
     for number, example in enumerate(examples):
-        print(f"{example.source}: {example.item}: {words.get(number, 'did not run')}")
-    for name in missing:
-        print(f"{name}: has no example")
-    failed = len(examples) - ran + len(missing)
-    print(f"{ran} examples ran, {failed} failed")
-    return 1 if failed else 0
+        word = words.get(number, "did not run")
+        told.result(f"{example.source}:{example.above}: {example.item}", "" if word == "ran" else word)
+    if list(words.values()).count("ran") < len(examples):
+        tap.comment(said)
+    return told.end()
 
 
 if __name__ == "__main__":

@@ -14,7 +14,7 @@ alone, for those of more-edits/ at the whole crate. An edit that changes more th
 body by a check of the crate. What does not compile is not refused. If edits that are made together do not compile, each half of
 them is made without the other.
 
-The last line is 'N refused, M not', or 'N passed, M failed' of the last form.
+It writes TAP, with a test for each edit.
 """
 
 import contextlib
@@ -28,6 +28,10 @@ import subprocess
 import sys
 import tempfile
 from concurrent import futures
+
+sys.dont_write_bytecode = True
+
+import tap
 
 CRATES = pathlib.Path("crates")
 LEFT_BEHIND = ("edits", "more-edits", "must-not-compile", "out")
@@ -196,7 +200,7 @@ class Copy:
                 waiting = [edit for edit in waiting if edit not in tried]
                 continue
             if said.fault:
-                print(f"{self.crate}: this does not compile: {[edit.name for edit in tried]}\n{said.fault}")
+                tap.comment(f"{self.crate}: this does not compile: {[edit.name for edit in tried]}\n{said.fault}")
             now = [edit for edit, functions in chosen if said.names(functions, said.unproved) or functions == {None} and said.unproved]
             again = [edit for edit, functions in chosen if edit not in now and said.names(functions, said.callers)]
             done = [edit for edit, _ in chosen if not now or edit not in again]
@@ -214,48 +218,37 @@ def crates_of(names):
 
 
 def apply_all(names):
-    passed = failed = 0
+    told = tap.Tap()
     for crate in crates_of(names):
         for edit in edits_of(crate, "edits") + edits_of(crate, "more-edits"):
             try:
                 edit.applied((crate / edit.file).read_text())
-                passed += 1
+                told.ok(f"{edit.crate}/{edit.name} can be applied")
             except (Misfit, OSError) as why:
-                print(f"{edit.crate}/{edit.name}: {why}")
-                failed += 1
-    print(f"{passed} passed, {failed} failed")
-    return 1 if failed or not passed else 0
-
-
-def try_crate(tree, crate, edits, is_whole):
-    """How many edits of a crate are refused, and how many are not."""
-    with tree.copy_of(crate) as copy:
-        refused = copy.refused(edits, is_whole)
-    print(f"{crate}: {len(refused)} of {len(edits)} edits refused", flush=True)
-    missed = [edit for edit in edits if edit not in refused]
-    for edit in missed:
-        print(f"{crate}: {edit.name} is NOT refused", flush=True)
-    return len(refused), len(missed)
+                told.not_ok(f"{edit.crate}/{edit.name} can be applied", str(why))
+    return told.end()
 
 
 def try_all(folder, names):
     work = [(crate, edits) for crate in crates_of(names) if (edits := edits_of(crate, folder))]
     trees = queue.SimpleQueue()
+    told = tap.Tap()
 
-    def tried(crate, edits):
+    def refused(crate, edits):
         tree = trees.get()
         try:
-            return try_crate(tree, crate, edits, folder == "more-edits")
+            with tree.copy_of(crate) as copy:
+                return copy.refused(edits, folder == "more-edits")
         finally:
             trees.put(tree)
 
     with contextlib.ExitStack() as rooms, futures.ThreadPoolExecutor(AT_ONCE) as pool:
         for _ in range(AT_ONCE):
             trees.put(Tree(rooms.enter_context(tempfile.TemporaryDirectory(prefix="edits-"))))
-        counts = list(pool.map(tried, *zip(*work))) if work else []
-    refused, missed = map(sum, zip(*counts)) if counts else (0, 0)
-    print(f"{refused} refused, {missed} not")
-    return 1 if missed or not refused else 0
+        for (_, edits), found in zip(work, pool.map(refused, *zip(*work)) if work else ()):
+            for edit in edits:
+                told.result(f"{edit.crate}/{edit.name} is refused", "" if edit in found else "its crate is proved with it, or does not compile")
+    return told.end()
 
 
 def main():

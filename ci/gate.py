@@ -1,15 +1,13 @@
 #!/usr/bin/env python3
-"""Runs the tests that need no proof (`ci/unproved_tests.py`), some of them with wrong bodies that they must refuse
-(`ci/wrong_bodies.py`), the benchmark with small numbers (`bench/tibench.py`), and `rt ci`.
-Then, on the programs that `rt ci` has built, each case (`ci/cases.py`) and runs with an allocation refused
-(`ci/refused_memory.py`). Then, over the libraries that `rt ci` has proved, wrong bodies that the prover must refuse
-(`ci/edits.py`), what the compiler must refuse (`ci/must_not_compile.sh`), the C programs, the library as it is installed
-(`tests/install`), the schedules of the waiting layer (`tests/model`), and what the pages show (`ci/snippets.py`).
+"""Runs the test programs of the gate, and `rt ci` between those that need no proof and those that run what it has proved and built.
 
-`rt ci` leaves `tiwalk` and `tilint` in their crates' `out/` as LLVM builds them, and, where Rattle's own compiler took them, as
-that builds them. By `ci/rt_ci.py` it leaves the static library too. The output of `rt ci` is passed on, but for its last line
-'N passed, M failed': what is tried besides is added to those counts, and the sums are the last line here. The line before it has
-the processor time that all of this took.
+    ci/gate.py [JUNIT]      also writes all results into this file, as JUnit's XML
+
+Each test program writes TAP (`ci/tap.py`). What passed is only counted. The toolchain's `rt ci` has a last line of its own,
+'N passed, M failed'. It leaves `tiwalk` and `tilint` in their crates' `out/` as LLVM builds them, and, where Rattle's own compiler took
+them, as that builds them. By `ci/rt_ci.py` it leaves the static library too.
+
+The last line is 'N passed, M failed' of all, and the line before it has the processor time that all of this took.
 """
 
 import os
@@ -19,98 +17,113 @@ import resource
 import shutil
 import subprocess
 import sys
+from xml.etree import ElementTree
 
 sys.dont_write_bytecode = True
 
-import cases
 import lib
 import proved_libraries
+import tap
 
 WALK = "crates/tiwalk/out/tiwalk"
 LINT = "crates/tilint/out/tilint"
+NO_CHARACTER_OF_XML = re.compile("[^\t\n\x20-\ud7ff\ue000-\ufffd\U00010000-\U0010ffff]")
 
 
-def counts_of(*command):
-    """How many passed and failed, or were refused and not, of what a command tries, and its status. It prints all but the counts,
-    its last line."""
-    last = ""
-    with subprocess.Popen(command, stdout=subprocess.PIPE, text=True, errors="replace") as started:
+def rt_ci():
+    """What `rt ci` proves and runs. Its output is passed on, but for its last line."""
+    suite, last = tap.Suite("rt ci"), ""
+    with subprocess.Popen([sys.executable, "ci/rt_ci.py"], stdout=subprocess.PIPE, text=True, errors="replace") as started:
         for line in started.stdout:
             print(last, end="", flush=True)
             last = line
-    counts = re.fullmatch(r"(\d+) (?:passed|refused), (\d+) (?:failed|not)\n", last)
-    if not counts:
+    if counts := re.fullmatch(r"(\d+) passed, (\d+) failed\n", last):
+        suite.passed, suite.failed = map(int, counts.groups())
+    else:
         print(last, end="")
-        return 0, 1, started.returncode
-    return int(counts[1]), int(counts[2]), started.returncode
+    if not counts or started.returncode and not suite.failed:
+        suite.fail(f"it ended with status {started.returncode}")
+    return suite
 
 
-def has_compiler():
-    return shutil.which(os.environ.get("CC", "cc"))
+class Gate:
+    """Runs test programs, and keeps their results."""
+
+    def __init__(self):
+        self.suites = []
+
+    def add(self, suite):
+        print(suite, flush=True)
+        self.suites.append(suite)
+        return not suite.failed
+
+    def run(self, name, *words, program=sys.executable):
+        return self.add(tap.read(name, [program, *map(str, words)]))
+
+    def count(self, word):
+        return sum(getattr(suite, word) for suite in self.suites)
+
+    def run_unproved(self):
+        self.run("the reader of TAP", "ci/test_tap.py")
+        self.run("tests without a proof", "ci/unproved_tests.py")
+        self.run("wrong bodies that a test must refuse", "ci/wrong_bodies.py")
+        self.run("the benchmark", "bench/tibench.py", "--try")
+
+    def run_built(self):
+        """The programs that `rt ci` has built."""
+        others = [program + ".by-rattle" for program in (WALK, LINT) if pathlib.Path(program + ".by-rattle").is_file()]
+        for program in (WALK, LINT, *others):
+            self.run(f"cases on {program}", "ci/cases.py", program)
+        self.run("refused allocations", "ci/refused_memory.py", "--gate", WALK)
+
+    def run_proved(self):
+        """The libraries that `rt ci` has proved, and that for C, which is built first."""
+        for crate in (lib.CRATE, lib.TOP / "crates/tiwalk"):
+            proved_libraries.note(crate, lib.TOP)
+        self.run("edits that the prover must refuse", "ci/edits.py")
+        self.run("what the compiler must refuse", "ci/must_not_compile.sh", program="sh")
+        if not shutil.which(os.environ.get("CC", "cc")):
+            self.add(tap.Suite("the library for C: there is no C compiler", skipped=1))
+        elif subprocess.run([sys.executable, "ci/lib.py", *([lib.ARCHIVE] if lib.ARCHIVE.is_file() else [])]).returncode:
+            self.add(tap.Suite("the library for C is not built", failed=1))
+        else:
+            self.run("C programs", "tests/c/run.py", lib.ARCHIVE)
+            self.run("as it is installed", "tests/install/run.py", "--gate")
+            self.run("schedules of the waiting layer", "tests/model/run.py", lib.ARCHIVE, "--gate")
+        self.run("snippets", "ci/snippets.py")
 
 
-def try_refusals(program):
-    """How many runs with an allocation refused passed and failed, on four documents. Without a C compiler none is tried."""
-    if not has_compiler():
-        print("there is no C compiler: no allocation is refused")
-        return 0, 0
-    return counts_of(sys.executable, "ci/refused_memory.py", "--gate", program)[:2]
+def write_junit(suites, path):
+    """Writes the results as JUnit's XML."""
+    def text(words):
+        return NO_CHARACTER_OF_XML.sub("?", words)
 
-
-def try_library():
-    """The same of the C programs, over a library that is built first. Without a C compiler none is tried."""
-    if not has_compiler():
-        print("there is no C compiler: the C programs are not tried")
-        return 0, 0, 0
-    if subprocess.run([sys.executable, "ci/lib.py", *([lib.ARCHIVE] if lib.ARCHIVE.is_file() else [])]).returncode:
-        print("the library for C was not built")
-        return 0, 1, 1
-    passed, failed, status = counts_of(sys.executable, "tests/c/run.py", lib.ARCHIVE)
-    well, ill, other = counts_of(sys.executable, "tests/install/run.py", "--gate")
-    print(f"as it is installed: {well} passed, {ill} failed")
-    right, wrong, found = counts_of(sys.executable, "tests/model/run.py", lib.ARCHIVE, "--gate")
-    print(f"schedules of the waiting layer: {right} passed, {wrong} failed")
-    return passed + well + right, failed + ill + wrong, status or other or found
+    root = ElementTree.Element("testsuites")
+    for suite in suites:
+        counts = {"tests": suite.passed + suite.failed + suite.skipped, "failures": suite.failed, "skipped": suite.skipped}
+        inner = ElementTree.SubElement(root, "testsuite", name=suite.name, **{word: str(count) for word, count in counts.items()})
+        for point in suite.points:
+            case = ElementTree.SubElement(inner, "testcase", classname=suite.name, name=text(point.name), time=f"{point.seconds:.3f}")
+            if point.word == tap.FAILED:
+                ElementTree.SubElement(case, "failure").text = text(point.detail)
+            elif point.word == tap.SKIPPED:
+                ElementTree.SubElement(case, "skipped", message=text(point.detail))
+    ElementTree.ElementTree(root).write(path, encoding="utf-8", xml_declaration=True)
 
 
 def main():
-    passed, failed, _ = counts_of(sys.executable, "ci/unproved_tests.py")
-    print(f"tests without a proof: {passed} passed, {failed} failed", flush=True)
-    well, ill, _ = counts_of(sys.executable, "ci/wrong_bodies.py")
-    print(f"wrong bodies that a test must refuse: {well} refused, {ill} not", flush=True)
-    passed, failed = passed + well, failed + ill
-    well, ill, _ = counts_of(sys.executable, "bench/tibench.py", "--try")
-    print(f"the benchmark: {well} passed, {ill} failed", flush=True)
-    passed, failed = passed + well, failed + ill
-    well, ill, status = counts_of(sys.executable, "ci/rt_ci.py")
-    passed, failed = passed + well, failed + ill
-    others = [program + ".by-rattle" for program in (WALK, LINT) if pathlib.Path(program + ".by-rattle").is_file()]
-    for program in (WALK, LINT, *others):
-        well, ill = cases.run_all(program)
-        print(f"cases on {program}: {well} passed, {ill} failed")
-        passed, failed = passed + well, failed + ill
-    well, ill = try_refusals(WALK)
-    print(f"refused allocations: {well} passed, {ill} failed")
-    passed, failed = passed + well, failed + ill
-    if not status:
-        for crate in (lib.CRATE, lib.TOP / "crates/tiwalk"):
-            proved_libraries.note(crate, lib.TOP)
-        well, ill, _ = counts_of(sys.executable, "ci/edits.py")
-        print(f"edits that the prover must refuse: {well} refused, {ill} not", flush=True)
-        passed, failed = passed + well, failed + ill
-        well, ill, _ = counts_of("sh", "ci/must_not_compile.sh")
-        print(f"what the compiler must refuse: {well} passed, {ill} failed", flush=True)
-        passed, failed = passed + well, failed + ill
-        well, ill, status = try_library()
-        print(f"C programs: {well} passed, {ill} failed")
-        passed, failed = passed + well, failed + ill
-        well, ill, _ = counts_of(sys.executable, "ci/snippets.py")
-        print(f"snippets: {well} passed, {ill} failed")
-        passed, failed = passed + well, failed + ill
+    gate = Gate()
+    gate.run_unproved()
+    is_proved = gate.add(rt_ci())
+    gate.run_built()
+    if is_proved:
+        gate.run_proved()
+    if sys.argv[1:]:
+        write_junit(gate.suites, sys.argv[1])
     used = resource.getrusage(resource.RUSAGE_CHILDREN)
     print(f"it took {(used.ru_utime + used.ru_stime) / 60:.0f} processor minutes")
-    print(f"{passed} passed, {failed} failed")
-    return 1 if failed or status else 0
+    print(f"{gate.count('passed')} passed, {gate.count('failed')} failed")
+    return 1 if gate.count("failed") else 0
 
 
 if __name__ == "__main__":

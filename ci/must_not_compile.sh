@@ -10,10 +10,10 @@
 #
 # Each is applied to a copy of the tree, and `rt check` of the crate has to fail there with that error. The copy takes
 # over what is built of the other crates, and nothing of the crate itself. So the gate runs this behind `rt ci`: before it, each
-# copy would prove the crates below. The last line is 'N refused, M not', and the status is 0 exactly where M is 0.
+# copy would prove the crates below. It writes TAP, with a test for each edit.
 set -u
 
-refused=0
+count=0
 missed=0
 
 value() {
@@ -50,7 +50,7 @@ copy_tree() {
     done
 }
 
-# Whether the check of a copy with the edit fails with the error that the edit names; says why not.
+# Whether the check of a copy with the edit fails with the error that the edit names. Says why not.
 is_refused() {
     crate=$(basename "$(dirname "$(dirname "$1")")")
     file=$(value file "$1")
@@ -58,36 +58,40 @@ is_refused() {
     new=$(value new "$1")
     error=$(value error "$1")
     if [ -z "$file" ] || [ -z "$old" ] || [ -z "$error" ]; then
-        echo "$1: not a whole edit: it needs the lines file, old, new and error"
+        echo "not a whole edit: it needs the lines file, old, new and error"
         return 1
     fi
     copy_tree "$crate" "$2"
     if ! replace "$2/crates/$crate/$file"; then
-        echo "$1: its old text does not stand once in $file"
+        echo "its old text does not stand once in $file"
         return 1
     fi
     if (cd "$2/crates/$crate" && rt check) > "$2/check.txt" 2>&1; then
-        echo "$1: not refused: the crate is still proved"
+        echo "the crate is still proved"
         return 1
     fi
     if ! grep -q "error\[$error\]" "$2/check.txt"; then
-        echo "$1: the check fails without the error $error:"
+        echo "the check fails without the error $error:"
         tail -n 20 "$2/check.txt"
         return 1
     fi
-    echo "$1: refused: $(grep -m 1 "error\[$error\]" "$2/check.txt")"
 }
+
+echo "TAP version 14"
 
 for edit in crates/*/must-not-compile/*.edit; do
     [ -e "$edit" ] || continue
     copy=$(mktemp -d)
-    if is_refused "$edit" "$copy"; then
-        refused=$((refused + 1))
+    count=$((count + 1))
+    if is_refused "$edit" "$copy" > "$copy/why.txt"; then
+        echo "ok $count - $edit is refused"
     else
         missed=$((missed + 1))
+        echo "not ok $count - $edit is refused"
+        sed 's/^/# /' "$copy/why.txt"
     fi
     rm -rf "$copy"
 done
 
-echo "$refused refused, $missed not"
+echo "1..$count"
 [ "$missed" -eq 0 ]

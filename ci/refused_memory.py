@@ -4,7 +4,7 @@ meets no refusal; and so with each start of a thread of a live run.
 
 Each run has to end with status 3, `tiwalk: memory` and nothing written, or with the example's status and text, where the
 line of at most one `trace` or `read` of a walk, or of one call for frames or of a list in a live run, is `error 110`
-instead. The last line is 'N passed, M failed'. (A trace that is refused does not wait, so in each example something else
+instead. It writes TAP. (A trace that is refused does not wait, so in each example something else
 waits too at the poll that would answer it: no other line depends on it. In live examples no line depends on another.)
 
     ci/refused_memory.py [PROGRAM [DOCUMENT..]]        crates/tiwalk/out/tiwalk by default: `make run` builds it
@@ -21,9 +21,14 @@ import itertools
 import json
 import os
 import pathlib
+import shutil
 import subprocess
 import sys
 import tempfile
+
+sys.dont_write_bytecode = True
+
+import tap
 
 SHIM = r"""
 #define _GNU_SOURCE
@@ -117,20 +122,16 @@ def refuse_one(program, document, data, wanted, shim, folder, what, number):
     return met, None if well else f"status {done.status}, {done.out!r}"
 
 
-def refuse_each(program, path, shim, folder):
-    """How many runs ended as they may, and how many did not."""
+def refuse_each(told, program, path, shim, folder):
+    """Tells of each run on a document whether it ended as it may."""
     data, wanted = path.read_bytes(), path.with_suffix(".out").read_bytes()
     document = json.loads(data)
-    passed = failed = 0
     for what in ("ALLOCATION", "THREAD"):
         for number in itertools.count(1):
             met, fault = refuse_one(program, document, data, wanted, shim, folder, what, number)
-            passed, failed = passed + (not fault), failed + bool(fault)
-            if fault:
-                print(f"{path.name}: {what} {number}: {fault}")
+            told.result(f"{path.name}: {what} {number} is refused", fault)
             if not met:
                 break
-    return passed, failed
 
 
 def given(words):
@@ -153,15 +154,15 @@ def built(text, folder):
 
 def main():
     program, documents = given(sys.argv[1:])
-    passed = failed = 0
+    if not shutil.which("cc"):
+        return tap.skip_all("there is no C compiler")
+    told = tap.Tap()
     with tempfile.TemporaryDirectory() as name:
         folder = pathlib.Path(name)
         shim = built(SHIM, folder)
         for path in documents:
-            well, ill = refuse_each(program, path, shim, folder)
-            passed, failed = passed + well, failed + ill
-    print(f"{passed} passed, {failed} failed")
-    return 1 if failed or not passed else 0
+            refuse_each(told, program, path, shim, folder)
+    return told.end()
 
 
 if __name__ == "__main__":

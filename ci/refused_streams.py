@@ -4,7 +4,7 @@ bytes and then fails, or takes none.
 
 Input that comes byte by byte changes nothing. Input that fails ends with status 4, `tiwalk: read` and nothing written,
 wherever it fails. Output that takes the first K bytes, for each K below the length of the example's text, ends with status
-4 and `tiwalk: write`, and has just these. The last line is 'N passed, M failed'.
+4 and `tiwalk: write`, and has just these. It writes TAP.
 
     ci/refused_streams.py [PROGRAM [DOCUMENT..]]       crates/tiwalk/out/tiwalk by default: `make run` builds it
 
@@ -22,6 +22,7 @@ import tempfile
 sys.dont_write_bytecode = True
 
 import refused_memory
+import tap
 
 SHIM = r"""
 #define _GNU_SOURCE
@@ -74,16 +75,13 @@ def ends_of(program, path, shim):
 
 def main():
     program, documents = refused_memory.given(sys.argv[1:])
-    passed = failed = 0
+    told = tap.Tap()
     with tempfile.TemporaryDirectory() as name:
         shim = refused_memory.built(SHIM, pathlib.Path(name))
         for path in documents:
             for what, wanted, came in ends_of(program, path, shim):
-                passed, failed = passed + (came == wanted), failed + (came != wanted)
-                if came != wanted:
-                    print(f"{path.name}: {what}: {came}")
-    print(f"{passed} passed, {failed} failed")
-    return 1 if failed or not passed else 0
+                told.result(f"{path.name}: {what}", "" if came == wanted else came)
+    return told.end()
 
 
 if __name__ == "__main__":

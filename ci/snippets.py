@@ -12,7 +12,7 @@ A snippet is a fenced block of one of these kinds:
   compiler it is skipped.
 
 Each has to end with status 0. If the block after it has no kind, that is what it has to write to standard output. A block
-without a kind that follows no snippet is not read. The last line is 'N passed, M failed'.
+without a kind that follows no snippet is not read. It writes TAP.
 """
 
 import json
@@ -28,6 +28,7 @@ from collections import namedtuple
 sys.dont_write_bytecode = True
 
 import refused_memory
+import tap
 import unproved
 
 PAGES = ("README.md", "CONTRIBUTING.md", "docs/USING.md", "examples/README.md")
@@ -108,16 +109,14 @@ def main():
     if not set(kinds) <= set(RUNS):
         sys.exit(__doc__.strip())
     snippets = [snippet for page in PAGES for snippet in snippets_of(page) if snippet.kind in kinds]
-    passed = failed = 0
+    told = tap.Tap()
     for snippet in snippets:
+        name = f"{snippet.place}: {snippet.kind}"
         if snippet.kind in COMPILERS and not shutil.which(compiler(snippet.kind)):
-            print(f"{snippet.place}: skipped, there is no {compiler(snippet.kind)}")
-            continue
-        fault = fault_of(snippet)
-        print(f"{snippet.place}: {snippet.kind}: {fault or 'passed'}", flush=True)
-        passed, failed = passed + (not fault), failed + bool(fault)
-    print(f"{passed} passed, {failed} failed")
-    return 1 if failed else 0
+            told.skip(name, f"there is no {compiler(snippet.kind)}")
+        else:
+            told.result(name, fault_of(snippet))
+    return told.end()
 
 
 if __name__ == "__main__":

@@ -9,8 +9,8 @@ made.rattle. They call nothing with a condition (`requires`), or assert the cond
 (`ci/unproved.py`). A run whose contract is a theorem stands in a crate below crates/, and `rt ci` proves it. The files have an
 ending of their own because `rt ci` refuses a .rt file that it does not read.
 
-All folders are compiled as one crate, so that the crates below are compiled once. A file that is not laid out as `rt fmt` does it
-fails. The last line is 'N passed, M failed'.
+All folders are compiled as one crate, so that the crates below are compiled once. Besides, each folder has to be laid out as `rt fmt`
+does it. It writes TAP.
 """
 
 import pathlib
@@ -20,6 +20,7 @@ import sys
 
 sys.dont_write_bytecode = True
 
+import tap
 import unproved
 
 TESTS = pathlib.Path("tests/crates")
@@ -56,35 +57,35 @@ def ill_laid(root, name):
     return [(file, text) for file, text in files if file.read_text() != text]
 
 
-def try_all(root, names):
-    """How many tests of these folders passed, and how many did not. All count as one that did not if they do not compile."""
+def try_all(told, root, names):
+    """Tells which tests of these folders passed, and whether all of them ran."""
     said, verdicts = unproved.try_tests(unproved.add(root, ALL, {module: text for name in names for module, text in modules_of(name).items()}))
-    passed = failed = 0
     for name in names:
-        own = [verdict for test, verdict in verdicts.items() if test.startswith(f"{name}{BETWEEN}")]
-        print(f"{TESTS / name}: {sum(own)} passed, {len(own) - sum(own)} failed", flush=True)
-        passed, failed = passed + sum(own), failed + (len(own) - sum(own) if own else 1)
-    if failed:
-        print(re.sub(rf"^\S*\bsrc/(\w+?){BETWEEN}(\w+)\.rt", rf"{TESTS}/\1/\2{ENDING}", said, flags=re.M), end="")
-    return passed, failed
+        own = {test: passed for test, passed in verdicts.items() if test.startswith(f"{name}{BETWEEN}")}
+        for test, passed in own.items():
+            told.result(f"{TESTS / name}: {test.removeprefix(name + BETWEEN)}", "" if passed else "it failed")
+        count = sum(len(re.findall(r"^ *#\[test\]", file.read_text(), re.M)) for file in files_of(name))
+        if len(own) != count:
+            told.not_ok(f"{TESTS / name}: all tests run", f"{len(own)} of {count} ran")
+    if told.failed:
+        tap.comment(re.sub(rf"^\S*\bsrc/(\w+?){BETWEEN}(\w+)\.rt", rf"{TESTS}/\1/\2{ENDING}", said, flags=re.M))
 
 
 def main():
     words = sys.argv[1:]
     names = [word for word in words if word != "--fmt"] or sorted(folder.name for folder in TESTS.iterdir() if folder.is_dir())
     with unproved.copy_of_crates() as root:
-        ill = [pair for name in names for pair in ill_laid(root, name)]
+        ill = {name: ill_laid(root, name) for name in names}
         if "--fmt" in words:
-            for file, text in ill:
+            for file, text in (pair for pairs in ill.values() for pair in pairs):
                 file.write_text(text)
                 print(f"laid out: {file}")
             return 0
-        for file, _ in ill:
-            print(f"{file}: not laid out: ci/unproved_tests.py --fmt does it")
-        passed, failed = try_all(root, names)
-    failed += len(ill)
-    print(f"{passed} passed, {failed} failed")
-    return 1 if failed else 0
+        told = tap.Tap()
+        for name, pairs in ill.items():
+            told.result(f"{TESTS / name}: laid out", "\n".join(f"{file}: ci/unproved_tests.py --fmt does it" for file, _ in pairs))
+        try_all(told, root, names)
+    return told.end()
 
 
 if __name__ == "__main__":

@@ -6,7 +6,7 @@
 A file of tests/wrong has an edit as `ci/edits.py` reads it, with files named from crates/ on, and before it a line
 'shown by: FOLDER MODULE::TEST', which names the test of tests/crates that has to fail. These tests' modules are run with nothing
 proved. Bodies are made together, in one copy. One that never ends has a line 'seconds: N', is made alone, and its test must not end
-within this time. What does not compile is not refused. The last line is 'N refused, M not'.
+within this time. What does not compile is not refused. It writes TAP.
 """
 
 import dataclasses
@@ -16,6 +16,7 @@ import sys
 
 sys.dont_write_bytecode = True
 
+import tap
 import unproved
 import unproved_tests
 
@@ -63,30 +64,27 @@ class Body:
             path.write_text(text.replace(old, new))
 
 
-def tried(bodies, *flags):
-    """Those of these bodies that are refused when all are made."""
+def try_together(told, bodies, *flags):
+    """Tells which of these bodies are refused when all are made."""
     with unproved.copy_of_crates() as root:
         modules = {}
         for body in bodies:
             body.apply(root)
             modules |= body.modules()
         said, verdicts = unproved.try_tests(unproved.add(root, unproved_tests.ALL, modules), *flags)
-    refused = [body for body in bodies if verdicts.get(body.test()) is False]
     for body in bodies:
-        print(f"{body.name}: {'refused' if body in refused else 'NOT REFUSED'} by {body.shown_by}", flush=True)
-    if len(refused) < len(bodies):
-        print(said[-4000:])
-    return refused
+        is_refused = verdicts.get(body.test()) is False
+        told.result(f"{body.name} is refused by {body.shown_by}", "" if is_refused else said[-4000:] or "nothing is said")
 
 
 def main():
+    told = tap.Tap()
     bodies = [Body.read(path) for path in sorted(BODIES.glob("*.edit"))]
-    refused = tried([body for body in bodies if not body.seconds])
+    try_together(told, [body for body in bodies if not body.seconds])
     for body in bodies:
         if body.seconds:
-            refused += tried([body], "--seconds", body.seconds)
-    print(f"{len(refused)} refused, {len(bodies) - len(refused)} not")
-    return 0 if len(refused) == len(bodies) else 1
+            try_together(told, [body], "--seconds", body.seconds)
+    return told.end()
 
 
 if __name__ == "__main__":

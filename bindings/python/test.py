@@ -4,7 +4,7 @@
     test.py LIBRARY [INCLUDE]
 
 LIBRARY is libcebdyraq.a or libcebdyraq.so, or libti_capi.a, the proved half alone. INCLUDE is the folder of the headers, otherwise
-c/. CC names the C compiler, otherwise cc.
+c/. CC names the C compiler, otherwise cc. It writes TAP by ci/tap.py, which Python finds in the repository or by PYTHONPATH.
 """
 
 import ctypes
@@ -23,10 +23,13 @@ import time
 import unittest
 import urllib.request
 
+HERE = pathlib.Path(__file__).resolve().parent
+sys.path.append(str(HERE.parent.parent / "ci"))
+
 import cebdyraq
+import tap
 from cebdyraq import Capability, Code, Environment, Error, EventKind, Frame, LineEntry, MethodName, StackInfo
 
-HERE = pathlib.Path(__file__).resolve().parent
 C = HERE.parent.parent / "c"
 
 
@@ -432,7 +435,7 @@ if __name__ == "__main__":
     if len(sys.argv) < 2:
         sys.exit(__doc__)
     with tempfile.TemporaryDirectory() as temporary:
-        library = pathlib.Path(sys.argv.pop(1)).resolve()
-        include = pathlib.Path(sys.argv.pop(1)).resolve() if sys.argv[1:] else C
+        library = pathlib.Path(sys.argv[1]).resolve()
+        include = pathlib.Path(sys.argv[2]).resolve() if sys.argv[2:] else C
         WithRuntime.library = cebdyraq.load(build(library, include, temporary))
-        unittest.main(verbosity=1)
+        sys.exit(tap.run(unittest.defaultTestLoader.loadTestsFromName("__main__")))

@@ -4,8 +4,8 @@
     run.py ARCHIVE [PROGRAM ...]
 
 Each program is run plain, with the address and undefined-behaviour sanitizers, with the thread sanitizer, and under
-valgrind. The archive itself is not instrumented. CC and CXX name the compilers, otherwise cc and c++. There is a line
-for each program and mode, and a last line with the sums. The exit status is 1 if something failed.
+valgrind. The archive itself is not instrumented. CC and CXX name the compilers, otherwise cc and c++. It writes TAP, with a
+test for each program and mode.
 """
 
 import os
@@ -15,10 +15,16 @@ import signal
 import subprocess
 import sys
 import tempfile
-import time
+
+sys.dont_write_bytecode = True
 
 HERE = pathlib.Path(__file__).resolve().parent
-C = HERE.parent.parent / "c"
+TOP = HERE.parent.parent
+sys.path.append(str(TOP / "ci"))
+
+import tap
+
+C = TOP / "c"
 WAIT = [C / "cebdyraq_wait.c"]
 HEAP = [C / "cebdyraq_heap.c"]
 COUNTED_HEAP = [HERE / "counted_heap.c"]
@@ -135,18 +141,18 @@ def command_of(program, mode, folder):
     return command
 
 
-def tried(program, mode, archive):
-    """Whether a program passes in a mode, and what was said when it does not."""
+def fault_of(program, mode, archive):
+    """What is said if a program fails in a mode, or None."""
     with tempfile.TemporaryDirectory() as name:
         folder = pathlib.Path(name)
         said = compile_program(program, mode, archive, folder)
         if said is not None:
-            return False, said
+            return said or "it does not compile"
         try:
             done = run(command_of(program, mode, folder), timeout=LONGEST)
         except subprocess.TimeoutExpired:
-            return False, "it did not end in %d seconds\n" % LONGEST
-        return done.returncode == 0, "exit status %d\n%s" % (done.returncode, done.stdout)
+            return "it did not end in %d seconds" % LONGEST
+        return "exit status %d\n%s" % (done.returncode, done.stdout) if done.returncode else None
 
 
 def is_missing(mode):
@@ -186,7 +192,7 @@ def built_plain(source, folder):
     return str(made)
 
 
-def report_ordered(archive):
+def fault_of_order(archive):
     """The thread sanitizer over the library as it is built, with the suppressions that are installed: a program that keeps to the
     library's order is right, and the same with a race in it is reported."""
     with tempfile.TemporaryDirectory() as name:
@@ -197,13 +203,10 @@ def report_ordered(archive):
         environment = dict(os.environ, TSAN_OPTIONS="exitcode=66 suppressions=%s" % (C / "tsan.supp"))
         right, wrong = (run([made, *words], env=environment, timeout=LONGEST) for words in ([], ["race"]))
     passed = (right.returncode, right.stdout) == (0, "") and wrong.returncode == 66 and "in count\n" in wrong.stdout
-    print("the thread sanitizer knows the library's order: " + ("passed" if passed else "FAILED"))
-    if not passed:
-        print(right.stdout + wrong.stdout, flush=True)
-    return passed
+    return None if passed else "exit status %d and %d\n%s" % (right.returncode, wrong.returncode, right.stdout + wrong.stdout)
 
 
-def report_without_exceptions(archive):
+def fault_without_exceptions(archive):
     """The header for C++ without exceptions: a call that is refused ends the program. No name in it hides another."""
     with tempfile.TemporaryDirectory() as name:
         folder = pathlib.Path(name)
@@ -214,26 +217,15 @@ def report_without_exceptions(archive):
         right, wrong = (run([made, *words], timeout=LONGEST) for words in ([], ["twice"])) if built.returncode == 0 else (built, built)
     refusal = "cebdyraq: 210 CQ_NOT_NEW: a start of a thread that has started\n"
     passed = (right.returncode, right.stdout) == (0, "") and (wrong.returncode, wrong.stdout) == (-signal.SIGABRT, refusal)
-    print("the header for C++ without exceptions: " + ("passed" if passed else "FAILED"))
-    if not passed:
-        print(right.stdout + wrong.stdout, flush=True)
-    return passed
+    return None if passed else "exit status %d and %d\n%s" % (right.returncode, wrong.returncode, right.stdout + wrong.stdout)
 
 
-def report_needed(archive):
-    names = sorted(needed(archive))
-    print("the library needs memory alone: " + ("passed" if not names else "FAILED, it needs " + ", ".join(names)))
-    return not names
-
-
-def report(program, mode, archive):
-    began = time.monotonic()
-    passed, said = tried(program, mode, archive)
-    word = "passed" if passed else "FAILED"
-    print("%s, %s: %s (%.1f s)" % (program.name, mode, word, time.monotonic() - began), flush=True)
-    if not passed:
-        print(said, flush=True)
-    return passed
+def test_library(told, archive):
+    if shutil.which("nm"):
+        told.result("the library needs memory alone", ", ".join(sorted(needed(archive))))
+    told.result("the header for C++ without exceptions", fault_without_exceptions(archive))
+    if is_missing(THREAD) is None:
+        told.result("the thread sanitizer knows the library's order", fault_of_order(archive))
 
 
 def main(words):
@@ -242,32 +234,20 @@ def main(words):
         return 2
     archive = pathlib.Path(words[1]).resolve()
     if not archive.is_file():
-        print("there is no archive %s" % archive)
-        return 1
+        sys.exit("there is no archive %s" % archive)
     chosen = [program for program in PROGRAMS if not words[2:] or program.name in words[2:]]
-    passed = failed = skipped = 0
-    if not words[2:] and shutil.which("nm"):
-        passed, failed = (1, 0) if report_needed(archive) else (0, 1)
+    told = tap.Tap()
     if not words[2:]:
-        aborts = report_without_exceptions(archive)
-        passed, failed = passed + aborts, failed + (not aborts)
-    if not words[2:] and is_missing(THREAD) is None:
-        ordered = report_ordered(archive)
-        passed, failed = passed + ordered, failed + (not ordered)
+        test_library(told, archive)
     for mode in MODES:
         missing = is_missing(mode)
         for program in chosen:
-            if missing is not None:
-                print("%s, %s: skipped, %s" % (program.name, mode, missing))
-                skipped += 1
-            elif report(program, mode, archive):
-                passed += 1
+            name = "%s, %s" % (program.name, mode)
+            if missing is None:
+                told.result(name, fault_of(program, mode, archive))
             else:
-                failed += 1
-    if skipped > 0:
-        print("%d skipped" % skipped)
-    print("%d passed, %d failed" % (passed, failed))
-    return 1 if failed > 0 else 0
+                told.skip(name, missing)
+    return told.end()
 
 
 if __name__ == "__main__":

@@ -3,9 +3,9 @@
 
     run.py [--gate] [NAME ..]
 
-With --gate, only what a C compiler alone can show (test_basics.py), and what the headers' table refuses (test_generated.py). A NAME is that of a module, a class or a test, as unittest
-has it. A test that needs a program that is missing is skipped. CC and CXX name the compilers, otherwise cc and c++. The last
-line is 'N passed, M failed'.
+With --gate, only what a C compiler alone can show (test_basics.py), and what the headers' table refuses (test_generated.py). A NAME is
+that of a module, a class or a test, as unittest has it. A test that needs a program that is missing is skipped. CC and CXX name the
+compilers, otherwise cc and c++. It writes TAP.
 """
 
 import sys
@@ -14,6 +14,7 @@ import unittest
 sys.dont_write_bytecode = True
 
 import installed
+import tap
 
 GATE = ("test_basics", "test_generated")
 MODULES = (*GATE, "test_abi", "test_platforms", "test_bindings", "test_debian", "test_unwind")
@@ -23,11 +24,7 @@ def main(words):
     if not (installed.TOP / "dist/lib/libcebdyraq.a").is_file():
         sys.exit("there is no library in dist/: make lib builds it")
     chosen = [word for word in words if word != "--gate"] or (GATE if "--gate" in words else MODULES)
-    tests = unittest.defaultTestLoader.loadTestsFromNames(chosen)
-    result = unittest.TextTestRunner(stream=sys.stdout, verbosity=2).run(tests)
-    failed = len(result.failures) + len(result.errors)
-    print(f"{result.testsRun - failed - len(result.skipped)} passed, {failed} failed")
-    return 1 if failed else 0
+    return tap.run(unittest.defaultTestLoader.loadTestsFromNames(chosen))
 
 
 if __name__ == "__main__":

@@ -12,7 +12,7 @@ TOP = HERE.parent.parent
 SCRIPTS = HERE / "scripts"
 MISSING = [program for program in ("jdb", "javac", "java") if not shutil.which(program)]
 
-sys.path.append(str(TOP / "hosts/lua"))  # jdwp.py, the debugger's end of the wire
+sys.path.extend((str(TOP / "hosts/lua"), str(TOP / "ci")))  # jdwp.py, the debugger's end of the wire, and tap.py
 
 cqlua = TOP / "hosts/lua/out/cqlua"
 dist = TOP / "dist"

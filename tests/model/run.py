@@ -4,8 +4,8 @@
     run.py ARCHIVE --gate      the scenarios alone
     run.py ARCHIVE             also with each fault planted (`faults.py`), and the models with theirs, for which it needs spin
 
-There is a line for each search, and a last line with the sums: 'N passed, M failed'. The exit status is 1 if something failed. CC names
-the compiler, otherwise cc. Without one nothing is tried.
+It writes TAP, with a test for each scenario and bounds, fault and model. CC names the compiler, otherwise cc. Without one nothing is
+tried.
 """
 
 import os
@@ -15,14 +15,17 @@ import shutil
 import subprocess
 import sys
 import tempfile
-import time
 
 sys.dont_write_bytecode = True
 
-import faults
-
 HERE = pathlib.Path(__file__).resolve().parent
-C = HERE.parent.parent / "c"
+TOP = HERE.parent.parent
+sys.path.append(str(TOP / "ci"))
+
+import faults
+import tap
+
+C = TOP / "c"
 WAIT = C / "cebdyraq_wait.c"
 SOURCES = [HERE / name for name in ("explore.c", "system.c", "waits.c", "scenarios.c", "calls_at_threads.c", "traces.c", "stops.c", "news.c")]
 OTHERS = [C / "cebdyraq_heap.c", C / "cebdyraq_classes.c"]
@@ -77,23 +80,14 @@ def search(program, words):
     return done.stdout.splitlines()
 
 
-def told(what, passed):
-    print(f"{what}: {'passed' if passed else 'FAILED'}", flush=True)
-    return passed
-
-
-def explore(program):
-    """Whether each scenario passed, for each of the bounds."""
-    results = []
+def explore(told, program):
+    """Tells whether each scenario passed, for each of the bounds."""
     for words in BOUNDS:
-        began = time.monotonic()
         lines = search(program, words)
-        wrong = [line for line in lines if ": WRONG: " in line]
+        for line in lines:
+            told.result(f"{words}: {line.partition(':')[0]}", line if ": WRONG: " in line else "")
         runs = sum(int(count) for count in re.findall(r": (\d+) runs", "\n".join(lines)))
-        print("\n".join(wrong) + ("\n" if wrong else ""), end="")
-        told(f"{len(lines)} scenarios, {words}: {runs} runs in {time.monotonic() - began:.0f} s", not wrong)
-        results += [": WRONG: " not in line for line in lines]
-    return results
+        tap.comment(f"{words}: {len(lines)} scenarios, {runs} runs")
 
 
 def is_found(archive, name, text, folder):
@@ -101,10 +95,7 @@ def is_found(archive, name, text, folder):
     source, made = folder / f"{name}.c", folder / name
     source.write_text(faults.planted(text, name))
     build(archive, source, made)
-    found = []
-    for words in BOUNDS_OF_FAULTS:
-        found = found or [line for line in search(made, words + " -f") if ": WRONG: " in line]
-    return told(f"fault {name} is found" + (f" ({found[0]})" if found else ""), bool(found))
+    return any(": WRONG: " in line for words in BOUNDS_OF_FAULTS for line in search(made, words + " -f"))
 
 
 def model_ends_well(model, defines, folder):
@@ -123,16 +114,14 @@ def model_ends_well(model, defines, folder):
     raise SystemExit(f"{model} {defines}:\n{said}")
 
 
-def check_models(folder):
+def check_models(told, folder):
     if not shutil.which("spin"):
-        print("there is no spin (Debian's package `spin`): the models are not searched")
-        return [False]
-    results = []
+        told.not_ok("the models are searched", "there is no spin (Debian's package `spin`)")
+        return
     for model, defines in RIGHT:
-        results.append(told(f"{model} {' '.join(defines)}", model_ends_well(model, defines, folder)))
+        told.result(f"{model} {' '.join(defines)}", "" if model_ends_well(model, defines, folder) else "nobody goes on")
     for model, defines in WRONG:
-        results.append(told(f"{model} {' '.join(defines)}: the fault is found", not model_ends_well(model, defines, folder)))
-    return results
+        told.result(f"{model} {' '.join(defines)}: the fault is found", "it is not" if model_ends_well(model, defines, folder) else "")
 
 
 def main(words):
@@ -140,20 +129,18 @@ def main(words):
         print(__doc__)
         return 2
     if not compiler():
-        print("there is no C compiler: the schedules of the waiting layer are not tried\n0 passed, 0 failed")
-        return 0
-    archive = pathlib.Path(words[1]).resolve()
+        return tap.skip_all("there is no C compiler")
+    archive, told = pathlib.Path(words[1]).resolve(), tap.Tap()
     with tempfile.TemporaryDirectory() as name:
         folder = pathlib.Path(name)
         build(archive, WAIT, folder / "explore")
-        results = explore(folder / "explore")
+        explore(told, folder / "explore")
         if not words[2:]:
             text = WAIT.read_text()
-            results += [is_found(archive, fault, text, folder) for fault in faults.FAULTS]
-            results += check_models(folder)
-    passed = sum(results)
-    print(f"{passed} passed, {len(results) - passed} failed")
-    return 0 if all(results) else 1
+            for fault in faults.FAULTS:
+                told.result(f"fault {fault} is found", "" if is_found(archive, fault, text, folder) else "it is not")
+            check_models(told, folder)
+    return told.end()
 
 
 if __name__ == "__main__":

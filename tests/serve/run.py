@@ -3,7 +3,7 @@
 
     tests/serve/run.py [CQLUA]      the host, otherwise hosts/lua/out/cqlua
 
-What a client is wanted for and is missing is said, and counts as missing, not as passed. The last line is 'N passed, M failed'.
+What wants a client that is missing is skipped. It writes TAP.
 """
 
 import contextlib
@@ -20,8 +20,15 @@ import unittest
 import urllib.parse
 import urllib.request
 
+sys.dont_write_bytecode = True
+
 HERE = pathlib.Path(__file__).resolve().parent
-CQLUA = HERE.parent.parent / "hosts/lua/out/cqlua"
+TOP = HERE.parent.parent
+sys.path.append(str(TOP / "ci"))
+
+import tap
+
+CQLUA = TOP / "hosts/lua/out/cqlua"
 SCRAPED_SECONDS = 20
 CONFIGURATION = """global:
   scrape_interval: 1s
@@ -186,26 +193,12 @@ class Told(unittest.TestCase):
         self.assertIn("nap", [frame["method"] for frame in sleeps["frames"]])
 
 
-class Counted(unittest.TextTestResult):
-    passed = 0
-
-    def addSuccess(self, test):
-        super().addSuccess(test)
-        self.passed += 1
-
-
 def main():
     global CQLUA
     CQLUA = pathlib.Path(sys.argv[1]).resolve() if sys.argv[1:] else CQLUA
     if not CQLUA.is_file():
-        print(f"there is no {CQLUA}: make lua builds it\n0 passed, 1 failed")
-        return 1
-    result = unittest.TextTestRunner(stream=sys.stdout, resultclass=Counted, verbosity=2).run(unittest.defaultTestLoader.loadTestsFromModule(sys.modules["__main__"]))
-    failed = len(result.failures) + len(result.errors)
-    for test, why in result.skipped:
-        print(f"missing: {test.id()}: {why}")
-    print(f"{result.passed} passed, {failed} failed")
-    return 1 if failed or not result.passed else 0
+        sys.exit(f"there is no {CQLUA}: make lua builds it")
+    return tap.run(unittest.defaultTestLoader.loadTestsFromName("__main__"))
 
 
 if __name__ == "__main__":
