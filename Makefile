@@ -26,10 +26,7 @@ try:
 
 test:
 	python3 ci/edits.py --apply
-	python3 ci/examples.py --tested
-	python3 ci/cases.py --covered
-	python3 ci/schemas.py
-	python3 ci/page_names.py
+	python3 ci/pages.py
 	python3 ci/proved.py
 	python3 ci/generate.py --check
 	python3 ci/doc_examples.py

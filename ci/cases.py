@@ -6,7 +6,6 @@ process that no document shows (`ci/process_ends.py`). What they want was worked
 
     ci/cases.py [PROGRAM..]     crates/tiwalk/out/tiwalk by default (`make run` builds it), and crates/tilint/out/tilint if built
     ci/cases.py --examples      the documents of `examples/` alone
-    ci/cases.py --covered       runs nothing, and wants a case for each word of the documents, each text and each fault
 
 In `tests/cases`, NAME.in is the document and NAME.out what standard output gets, NAME.err what standard error gets,
 NAME.status the status, and NAME.args has the arguments, one a line. A file that is not there says: nothing, nothing, 0,
@@ -23,7 +22,6 @@ import sys
 
 sys.dont_write_bytecode = True
 
-import coverage_of_cases
 import made_cases
 import process_ends
 import tap
@@ -132,9 +130,6 @@ def main():
     if not words and os.path.isfile(LINT):
         programs.append(LINT)
     told = tap.Tap()
-    if words == ["--covered"]:
-        coverage_of_cases.tell(told, [*walk_cases(), *examples(), *made(), *process_ends.ENDS], list(lint_cases()))
-        return told.end()
     for program in programs:
         run_all(told, program, "--examples" in words)
     return told.end()

@@ -1,37 +1,28 @@
-#!/usr/bin/env python3
-"""Holds the JSON Schemas of docs/schema against documents: each that the program reads has to fit, each broken one must not.
+"""Whether the JSON Schemas of docs/schema fit the documents that the program reads, and no broken one.
 
 A document fits the schema where the program has no fault of shape, limit or form of a name in it. So of the cases and
 examples those fit that end with status 0 or 1; and those whose fault is one that a schema can say do not. It cannot say
 which names are declared, which of them are threads, or that a thread and an agent have different names; cases of these
 faults are left out.
-
-    ci/schemas.py
 """
 
 import json
 import pathlib
 import re
-import sys
 
 try:
     from jsonschema import Draft202012Validator
 except ImportError:
-    print("there is no jsonschema (Debian's python3-jsonschema): the schemas are not tried\n0 passed, 0 failed")
-    sys.exit(0)
+    Draft202012Validator = None
 
-TOP = pathlib.Path(__file__).resolve().parent.parent
-VALIDATORS = {
-    name: Draft202012Validator(json.loads((TOP / "docs" / "schema" / f"{name}.schema.json").read_text(encoding="utf-8")))
-    for name in ("walk", "live", "history-1", "history-2")
-}
+SCHEMAS = pathlib.Path("docs/schema")
 # An agent with a word of a thread, a thread with one of an agent, and more or fewer lists than there are threads or agents.
 NOT_SAID = {
-    "word-of-the-other-subject.in",
-    "subject-and-thread-exchanged.in",
-    "live-calls-too-many.in",
-    "live-walks-too-few.in",
-    "live-walks-too-many.in",
+    "word-of-the-other-subject",
+    "subject-and-thread-exchanged",
+    "live-calls-too-many",
+    "live-walks-too-few",
+    "live-walks-too-many",
 }
 
 
@@ -40,10 +31,6 @@ class OtherNumber:
 
     def __init__(self, _text):
         pass
-
-
-def fits(name, document):
-    return VALIDATORS[name].is_valid(document)
 
 
 def read_document(text):
@@ -73,17 +60,6 @@ def expected(fault, document):
     return None if fault.startswith(("json", "usage", "limit input", "memory")) else False
 
 
-def stored():
-    """The cases and examples: name, command, text, and the fault that is wanted."""
-    for command in ("walk", "live", "check"):
-        for path in sorted((TOP / "tests" / "cases" / command).glob("*.in")):
-            fault = path.with_suffix(".err")
-            yield path.name, command, path.read_bytes(), fault.read_text().removeprefix("tiwalk: ").strip() if fault.exists() else ""
-    for path in sorted((TOP / "examples").glob("*.json")):
-        command = "check" if "history" in path.name else "live" if path.name.startswith("live") else "walk"
-        yield path.name, command, path.read_bytes(), ""
-
-
 LIVE = {"limits": {"depth": 4, "own": 32, "calls": 8}, "threads": ["t0", "t1"], "agents": ["e"], "methods": ["a"]}
 LIVE_FIT = (
     ([[], []], [[["add", ["can_suspend"]], ["suspend_list", ["t0", 9]], ["list", ["t0", "t1"], 2], ["all", -1]]]),
@@ -99,30 +75,31 @@ LIVE_BROKEN = (
 )
 
 
-def main():
-    passed, failed = 0, []
-    for name, command, text, fault in stored():
+def stored(cases):
+    """The documents of which a schema can say whether they fit: name, schema, document, and whether it has to."""
+    for case in cases:
         try:
-            document = read_document(text.decode())
+            document = read_document(case.document.decode())
         except (ValueError, RecursionError):
             continue
-        want = expected(fault, document)
-        if want is None or name in NOT_SAID:
-            continue
-        if fits(schema_of(command, document), document) == want:
-            passed += 1
-        else:
-            failed.append(name)
-    for wants, documents in ((True, LIVE_FIT), (False, LIVE_BROKEN)):
-        for walks, calls in documents:
-            if fits("live", {**LIVE, "walks": walks, "calls": calls}) == wants:
-                passed += 1
-            else:
-                failed.append(f"live script {walks} {calls}")
-    for name in failed:
-        print(f"{name}: the schema and the program differ")
-    print(f"{passed} passed, {len(failed)} failed")
-    return 1 if failed else 0
+        wanted = expected(case.wanted[1].decode().removeprefix("tiwalk: ").strip(), document)
+        if wanted is not None and case.name not in NOT_SAID:
+            yield case.name, schema_of((case.arguments or ["walk"])[0], document), document, wanted
 
 
-sys.exit(main())
+def made():
+    """Live scripts in the same form."""
+    for wanted, scripts in ((True, LIVE_FIT), (False, LIVE_BROKEN)):
+        for walks, calls in scripts:
+            yield f"live script {walks} {calls}"[:200], "live", {**LIVE, "walks": walks, "calls": calls}, wanted
+
+
+def tell(told, cases):
+    if not Draft202012Validator:
+        told.skip("the schemas", "there is no jsonschema (Debian's python3-jsonschema)")
+        return
+    names = ("walk", "live", "history-1", "history-2")
+    validators = {name: Draft202012Validator(json.loads((SCHEMAS / f"{name}.schema.json").read_text(encoding="utf-8"))) for name in names}
+    for name, schema, document, wanted in (*stored(cases), *made()):
+        is_right = validators[schema].is_valid(document) == wanted
+        told.result(f"{name} {'fits' if wanted else 'does not fit'} the schema of {schema}", "" if is_right else "the program says otherwise")
