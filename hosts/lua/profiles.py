@@ -4,7 +4,7 @@ import math
 import pathlib
 import re
 
-from checks import LUA, check, cqlua, run
+from shared import LUA, cqlua, run
 
 RATE = 1000
 
@@ -45,8 +45,8 @@ def counts_of_plain_lua(folder, name):
     return counts
 
 
-def compare_shares(name, ours, plain, worth):
-    """Compares the share of each function in two lists of counts.
+def other_shares(ours, plain, worth):
+    """The functions whose shares in two lists of counts differ, each with both shares and the standard error.
 
     If the share is p, it is seen in n samples with a standard error of sqrt(p (1 - p) / n). A stack that came late
     counts as often as it was due. So n is not the number of stacks, but what they are worth: as many that count once
@@ -58,7 +58,5 @@ def compare_shares(name, ours, plain, worth):
         a, b = ours[where] / n1, plain[where] / n2
         p = (ours[where] + plain[where]) / (n1 + n2)
         error = math.sqrt(p * (1 - p) * (1 / worth + 1 / n2))
-        if max(a, b) < 0.005:
-            continue
-        check(f"{where} has {a:.3f} of {n1} samples, and {b:.3f} of {n2} by plain Lua; standard error {error:.4f}",
-              abs(a - b) <= 4 * error + 0.01)
+        if max(a, b) >= 0.005 and abs(a - b) > 4 * error + 0.01:
+            yield where, a, b, error

@@ -6,7 +6,7 @@ import shutil
 import subprocess
 import time
 
-from checks import HERE, Debugger, check, run, script
+from shared import HERE, Debugger, WithFolder, run
 
 LIBRARY = pathlib.Path(os.environ.get("CEBDYRAQ", HERE / "../../dist"))
 # Gives a code in place of cq_set_frames, once it was called so often, if there are more frames than so many.
@@ -40,71 +40,79 @@ SHOWN = {8: WHOLE, 7: WHOLE[:3] + [CUT], 4: WHOLE[:3] + [CUT], 3: WHOLE[:1] + [C
          0: [CUT]}
 
 
-def test_build_over_what_is_installed(folder):
+class Built(WithFolder):
     """A copy of the host alone, and of the library's headers and archive alone."""
-    host, library = pathlib.Path(folder) / "host", pathlib.Path(folder) / "library"
-    shutil.copytree(HERE, host, ignore=shutil.ignore_patterns("out*", "__pycache__"))
-    for part in "include", "lib":
-        shutil.copytree(LIBRARY / part, library / part, symlinks=True)
-    environment = {name: value for name, value in os.environ.items()
-                   if name not in ("CEBDYRAQ", "CEBDYRAQ_LIB", "OUT")}
-    made = subprocess.run(["make", "-s", "-C", str(host), f"CEBDYRAQ={library}"], env=environment,
-                          capture_output=True, text=True)
-    check("the host is built over headers and archive alone", not made.returncode, made.stderr)
-    result = run(str(host / "out/cqlua"), "prof", "-e", "N = 100", "spectral_norm.lua")
-    check("and it profiles", not result.returncode and "1.274219991" in result.stdout and " ticks in " in result.stderr,
-          result)
-    missing = subprocess.run(["make", "-s", "-C", str(host), f"CEBDYRAQ={folder}/none", f"OUT={folder}/other"],
-                             env=environment, capture_output=True, text=True)
-    check("without a library it says what is missing", missing.returncode and "CEBDYRAQ= says where" in missing.stderr,
-          missing.stderr)
+
+    def make(self, *words):
+        environment = {name: value for name, value in os.environ.items() if name not in ("CEBDYRAQ", "CEBDYRAQ_LIB", "OUT")}
+        host = self.folder / "host"
+        shutil.copytree(HERE, host, ignore=shutil.ignore_patterns("out*", "__pycache__"))
+        return subprocess.run(["make", "-s", "-C", str(host), *words], env=environment, capture_output=True, text=True)
+
+    def test_build_over_what_is_installed(self):
+        library = self.folder / "library"
+        for part in "include", "lib":
+            shutil.copytree(LIBRARY / part, library / part, symlinks=True)
+        made = self.make(f"CEBDYRAQ={library}")
+        self.assertEqual(made.returncode, 0, made.stderr)
+        result = run(str(self.folder / "host/out/cqlua"), "prof", "-e", "N = 100", "spectral_norm.lua")
+        self.assertIn("1.274219991", result.stdout)
+        self.assertIn(" ticks in ", result.stderr)
+        self.assertEqual(result.returncode, 0)
+
+    def test_build_without_a_library(self):
+        made = self.make(f"CEBDYRAQ={self.folder}/none", f"OUT={self.folder}/other")
+        self.assertIn("CEBDYRAQ= says where", made.stderr)
+        self.assertNotEqual(made.returncode, 0)
 
 
-def built_to_refuse(folder):
+class Refused(WithFolder):
     """A cqlua whose service refuses stacks."""
-    source, out = pathlib.Path(folder) / "refuse.c", pathlib.Path(folder) / "out"
-    source.write_text(REFUSE)
-    subprocess.run(["cc", "-std=c11", "-Wall", "-Werror", f"-I{LIBRARY / 'include'}", "-c", str(source), "-o",
-                    f"{folder}/refuse.o"], check=True)
-    subprocess.run(["make", "-s", "-C", str(HERE), f"OUT={out}", f"LDFLAGS=-Wl,--wrap=cq_set_frames {folder}/refuse.o"],
-                   check=True)
-    return str(out / "cqlua")
 
+    def setUp(self):
+        super().setUp()
+        source, out = self.folder / "refuse.c", self.folder / "out"
+        source.write_text(REFUSE)
+        subprocess.run(["cc", "-std=c11", "-Wall", "-Werror", f"-I{LIBRARY / 'include'}", "-c", str(source), "-o",
+                        f"{self.folder}/refuse.o"], check=True)
+        subprocess.run(["make", "-s", "-C", str(HERE), f"OUT={out}", f"LDFLAGS=-Wl,--wrap=cq_set_frames {self.folder}/refuse.o"],
+                       check=True)
+        self.program = str(out / "cqlua")
 
-def refused(folder, program, code, most, after=0):
-    """What `bt` shows of a script, and how it ends, if stacks of more than so many frames are refused."""
-    stop = pathlib.Path(folder) / "stop"
-    stop.unlink(missing_ok=True)
-    os.environ.update(CODE=str(code), MOST=str(most), AFTER=str(after))
-    d = Debugger("-e", f"STOP = '{stop}'", script(folder, "tall.lua", TALL), program=program)
-    time.sleep(0.3)
-    text = d.say("bt 0")
-    stop.touch()
-    status, last = d.end()
-    check(f"code {code}, at most {most} frames: the script runs on", not status and "it ran on" in last, last)
-    return text
+    def shown(self, code, most, after=0):
+        """What `bt` shows of a script that runs to its end, if stacks of more than so many frames are refused."""
+        self.stop.unlink(missing_ok=True)
+        os.environ.update(CODE=str(code), MOST=str(most), AFTER=str(after))
+        d = Debugger("-e", f"STOP = '{self.stop}'", self.script("tall.lua", TALL), program=self.program)
+        time.sleep(0.3)
+        text = d.say("bt 0")
+        self.stop.touch()
+        status, last = d.end()
+        self.assertIn("it ran on", last)
+        self.assertEqual(status, 0)
+        return text
 
+    def test_refused_stacks_are_cut(self):
+        for code, why in (201, "too many frames"), (110, "no memory"), (103, "a frame that is none"):
+            for most, frames in SHOWN.items():
+                with self.subTest(why, most=most):
+                    text = self.shown(code, most)
+                    self.assertEqual(re.findall(r"^#\d+ +(\(frames left out\)|(?:\[C\] )?\w+)", text, re.M), frames, text)
 
-def test_refused_stacks(folder):
-    program = built_to_refuse(folder)
-    for code, why in (201, "too many frames"), (110, "no memory"), (103, "a frame that is none"):
-        for most, frames in SHOWN.items():
-            text = refused(folder, program, code, most)
-            seen = re.findall(r"^#\d+ +(\(frames left out\)|(?:\[C\] )?\w+)", text, re.M)
-            check(f"{why}, and {most} are taken: the newest are shown", seen == frames, text)
-    for code, why in (204, "the thread does not run"), (208, "no step is left"), (304, "a handle that is misused"):
-        text = refused(folder, program, code, -1, after=5)
-        check(f"{why}: the stack that was given before is not shown", "it has ended" in text and "#" not in text, text)
+    def test_refused_stacks_are_not_shown(self):
+        """Nor is the stack that was given before."""
+        for code, why in (204, "the thread does not run"), (208, "no step is left"), (304, "a handle that is misused"):
+            with self.subTest(why):
+                text = self.shown(code, -1, after=5)
+                self.assertIn("it has ended", text)
+                self.assertNotIn("#", text)
 
-
-def test_refused_stacks_in_a_profile(folder):
-    os.environ.update(CODE="110", MOST="2", AFTER="0")
-    path = script(folder, "cut.lua", """
-        local function inner() local s = 0 for i = 1, 2e7 do s = (s * 3 + i) % 11 end return s end
-        local function outer() return 1 + inner() end
-        local s = 1 + outer()
-    """)
-    result = run(built_to_refuse(folder), "prof", path)
-    lines = [re.sub(r" \([^)]*:\d+\)| \d+$", "", line) for line in result.stdout.splitlines()]
-    check("a profile of stacks that are cut", f"{CUT};inner" in lines and "the whole stack is refused with code 110" in
-          result.stderr, result)
+    def test_refused_stacks_in_a_profile(self):
+        os.environ.update(CODE="110", MOST="2", AFTER="0")
+        result = run(self.program, "prof", self.script("cut.lua", """
+            local function inner() local s = 0 for i = 1, 2e7 do s = (s * 3 + i) % 11 end return s end
+            local function outer() return 1 + inner() end
+            local s = 1 + outer()
+        """))
+        self.assertIn(f"{CUT};inner", [re.sub(r" \([^)]*:\d+\)| \d+$", "", line) for line in result.stdout.splitlines()])
+        self.assertIn("the whole stack is refused with code 110", result.stderr)

@@ -1,12 +1,11 @@
 """The classes of scripts: which functions they have, how they are named, and when there is a new one."""
 import contextlib
-import pathlib
 import struct
 import subprocess
 import time
 
-from checks import CQLUA, SLEEPER, check, script, served
 from jdwp import PATIENCE, ids
+from shared import CQLUA, SLEEPER, WithFolder
 from tests_attach import attach
 
 # Functions by all forms that name one, and below them the names in the order of the source.
@@ -80,112 +79,108 @@ class Debugger:
         return stack
 
 
-@contextlib.contextmanager
-def debugged(folder, *scripts):
-    """A debugger at these scripts of the folder, which is the current one."""
-    with served(folder, "run", "--debug", "127.0.0.1:0", *scripts, where=folder) as (_, line), attach(line) as wire:
-        yield Debugger(wire)
+class Classes(WithFolder):
+    @contextlib.contextmanager
+    def debugged(self, *scripts):
+        """A debugger at these scripts of the folder, which is the current one."""
+        with self.served("run", "--debug", "127.0.0.1:0", *scripts, where=self.folder) as (_, line), attach(line) as wire:
+            yield Debugger(wire)
 
+    def test_classes_have_all_functions(self):
+        """They are named by the source, also in a chunk with many constants. The statement is a chunk too."""
+        self.script("shapes.lua", SHAPES + SLEEPER)
+        self.script("many.lua", MANY + SLEEPER)
+        with self.debugged("shapes.lua", "many.lua") as debugger:
+            self.assertEqual(debugger.names("Lshapes;"), [NAMES])
+            self.assertEqual(debugger.names("Lmany;"), [MANY_NAMES])
+            self.assertEqual(debugger.names("L_command_line_;"), [["main"]])
 
-def test_classes_have_all_functions(folder):
-    script(folder, "shapes.lua", SHAPES + SLEEPER)
-    script(folder, "many.lua", MANY + SLEEPER)
-    with debugged(folder, "shapes.lua", "many.lua") as debugger:
-        check("functions are named by the source", debugger.names("Lshapes;") == [NAMES], debugger.names("Lshapes;"))
-        check("also in a chunk with many constants", debugger.names("Lmany;") == [MANY_NAMES], debugger.names("Lmany;"))
-        check("the statement is a chunk too", debugger.names("L_command_line_;") == [["main"]])
+    def test_classes_of_what_is_loaded(self):
+        """A module, a chunk that is named as a file, and a file under two names. A text is no class before it runs."""
+        (self.folder / "n-body").mkdir()
+        self.script("n-body/2d.lua", "local M = {} function M.move() end return M")
+        self.script("done.lua", "local function did() end")
+        self.script("main.lua", """
+            package.path = "./?.lua"
+            require("n-body.2d") dofile("done.lua") assert(loadfile("./done.lua"))
+            load("local function not_found() end") load("local function named() end", "@lib/named.lua")
+        """ + SLEEPER)
+        with self.debugged("main.lua") as debugger:
+            self.assertEqual(debugger.names("Ln_body/_2d;"), [["main", "move"]])
+            self.assertEqual(debugger.names("Llib/named;"), [["main", "named"]])
+            self.assertEqual(debugger.names("Ldone;", 2), [["main", "did"]] * 2)
+            self.assertEqual([debugger.wire.source_file(class_) for class_ in debugger.classes("Ldone;", 2)], ["done.lua"] * 2)
+            self.assertEqual([signature for signature in debugger.wire.classes() if "not_found" in signature], [])
 
+    def test_classes_are_shared_and_never_change(self):
+        """Another text is another class, and states that load the same file share its class."""
+        self.script("shared.lua", "local function one() end")
+        self.script("first.lua", "dofile('shared.lua') dofile('shared.lua')" + SLEEPER)
+        self.script("second.lua", """
+            dofile("shared.lua")
+            local file = io.open("changes.lua", "w") file:write("local function old() end") file:close() dofile("changes.lua")
+            file = io.open("changes.lua", "w") file:write("local function new() end") file:close() dofile("changes.lua")
+        """ + SLEEPER)
+        with self.debugged("first.lua", "second.lua") as debugger:
+            self.assertEqual(debugger.names("Lchanges;", 2), [["main", "old"], ["main", "new"]])
+            self.assertEqual(debugger.names("Lshared;"), [["main", "one"]])
 
-def test_classes_of_what_is_loaded(folder):
-    (pathlib.Path(folder) / "n-body").mkdir()
-    script(folder, "n-body/2d.lua", "local M = {} function M.move() end return M")
-    script(folder, "done.lua", "local function did() end")
-    script(folder, "main.lua", """
-        package.path = "./?.lua"
-        require("n-body.2d") dofile("done.lua") assert(loadfile("./done.lua"))
-        load("local function not_found() end") load("local function named() end", "@lib/named.lua")
-    """ + SLEEPER)
-    with debugged(folder, "main.lua") as debugger:
-        names = debugger.names("Ln_body/_2d;")
-        check("a module", names == [["main", "move"]], names)
-        names = debugger.names("Llib/named;")
-        check("a chunk that is named as a file", names == [["main", "named"]], names)
-        names = debugger.names("Ldone;", 2)
-        check("files that are loaded, under two names", names == [["main", "did"]] * 2, names)
-        files = [debugger.wire.source_file(class_) for class_ in debugger.classes("Ldone;", 2)]
-        check("the files of classes", files == ["done.lua"] * 2, files)
-        texts = [signature for signature in debugger.wire.classes() if "not_found" in signature]
-        check("a text is no class before it runs", not texts, texts)
+    def test_classes_of_functions_on_one_line(self):
+        """They have the same lines, and are called by other names. The code tells which of them runs, and not its variable."""
+        self.script("twins.lua", """
+            local t = { one = function() sleep(0.02) return 1 end, two = function() sleep(0.02) return 2 end }
+            local two, one = t.one, t.two
+            repeat one() local file = io.open(STOP) until file
+        """)
+        with self.debugged("twins.lua") as debugger:
+            self.assertEqual(debugger.stack("twins.lua", "C.sleep.sleep"), ["C.sleep.sleep", "twins.two:2", "twins.main:4"])
 
+    def test_classes_of_stripped_chunks(self):
+        """Their functions cannot be read, so each is a class of its own, under the name by which it is called."""
+        self.script("strip.lua", """
+            local text = "local function rest() repeat sleep(0.02) local file = io.open(STOP) until file end return rest"
+            local stripped = load(string.dump(load(text), true))()
+            stripped()
+        """)
+        with self.debugged("strip.lua") as debugger:
+            self.assertEqual(debugger.stack("strip.lua", "C.sleep.sleep"), ["C.sleep.sleep", "_.stripped:0", "strip.main:4"])
 
-def test_classes_are_shared_and_never_change(folder):
-    script(folder, "shared.lua", "local function one() end")
-    script(folder, "first.lua", "dofile('shared.lua') dofile('shared.lua')" + SLEEPER)
-    script(folder, "second.lua", """
-        dofile("shared.lua")
-        local file = io.open("changes.lua", "w") file:write("local function old() end") file:close() dofile("changes.lua")
-        file = io.open("changes.lua", "w") file:write("local function new() end") file:close() dofile("changes.lua")
-    """ + SLEEPER)
-    with debugged(folder, "first.lua", "second.lua") as debugger:
-        names = debugger.names("Lchanges;", 2)
-        check("another text is another class", names == [["main", "old"], ["main", "new"]], names)
-        names = debugger.names("Lshared;")
-        check("states that load the same file share its class", names == [["main", "one"]], names)
+    def test_classes_are_told_before_they_run(self):
+        """A debugger has time to set a breakpoint in a file that is loaded, and the hook notices it at the next line."""
+        for name in LOADS:
+            self.script(f"{name}.lua", f"io.open('ran-{name}', 'w'):close()\nlocal n = 1\nreturn n")
+        self.script("main.lua", "package.path = './?.lua' repeat sleep(0.01) local file = io.open('go') until file\n" +
+                    "\n".join(LOADS.values()) + SLEEPER)
+        with self.debugged("main.lua") as debugger:
+            wanted = {name: debugger.wants_class(name) for name in LOADS}
+            (self.folder / "go").touch()
+            for name, number in wanted.items():
+                with self.subTest(name):
+                    self.is_told_before_it_runs(debugger, self.folder / f"ran-{name}", number)
 
+    def is_told_before_it_runs(self, debugger, ran, number):
+        """The next event is that of a class, whose script waits, has not run, and stops at its second line."""
+        kind, found, data = debugger.event()
+        self.assertEqual((kind, found), (CLASS_PREPARE, number))
+        thread, _, class_ = data.number(8), data.number(1), data.number(8)
+        time.sleep(0.1)
+        self.assertFalse(ran.exists())
+        self.assertEqual(debugger.wire.status(thread)[1], 1)
+        main = next(iter(debugger.wire.methods(class_)))
+        placed = debugger.wants(BREAKPOINT, struct.pack(">BB", 7, 1) + ids(class_, main, 2))
+        debugger.wire.resume()
+        kind, found, _ = debugger.event()
+        self.assertEqual((kind, found), (BREAKPOINT, placed))
+        self.assertTrue(ran.exists())
+        debugger.wire.ask(15, 2, struct.pack(">Bi", BREAKPOINT, placed))
+        debugger.wire.resume()
 
-def test_classes_of_functions_on_one_line(folder):
-    """They have the same lines, and are called by other names. The code tells which of them runs."""
-    script(folder, "twins.lua", """
-        local t = { one = function() sleep(0.02) return 1 end, two = function() sleep(0.02) return 2 end }
-        local two, one = t.one, t.two
-        repeat one() local file = io.open(STOP) until file
-    """)
-    with debugged(folder, "twins.lua") as debugger:
-        stack = debugger.stack("twins.lua", "C.sleep.sleep")
-        check("it is the function, not its variable", stack == ["C.sleep.sleep", "twins.two:2", "twins.main:4"], stack)
-
-
-def test_classes_of_stripped_chunks(folder):
-    """Their functions cannot be read, so each is a class of its own, under the name by which it is called."""
-    script(folder, "strip.lua", """
-        local text = "local function rest() repeat sleep(0.02) local file = io.open(STOP) until file end return rest"
-        local stripped = load(string.dump(load(text), true))()
-        stripped()
-    """)
-    with debugged(folder, "strip.lua") as debugger:
-        stack = debugger.stack("strip.lua", "C.sleep.sleep")
-        check("a stripped function", stack == ["C.sleep.sleep", "_.stripped:0", "strip.main:4"], stack)
-
-
-def test_classes_are_told_before_they_run(folder):
-    """A debugger has time to set a breakpoint in a file that is loaded, and the hook notices it at the next line."""
-    for name in LOADS:
-        script(folder, f"{name}.lua", f"io.open('ran-{name}', 'w'):close()\nlocal n = 1\nreturn n")
-    script(folder, "main.lua", "package.path = './?.lua' repeat sleep(0.01) local file = io.open('go') until file\n" +
-           "\n".join(LOADS.values()) + SLEEPER)
-    with debugged(folder, "main.lua") as debugger:
-        wanted = {name: debugger.wants_class(name) for name in LOADS}
-        pathlib.Path(folder, "go").touch()
-        for name, number in wanted.items():
-            ran = pathlib.Path(folder, f"ran-{name}")
-            kind, found, data = debugger.event()
-            thread, _, class_ = data.number(8), data.number(1), data.number(8)
-            check(f"a debugger is told of {name}", (kind, found) == (CLASS_PREPARE, number), (kind, found))
-            time.sleep(0.1)
-            check(f"{name} waits", not ran.exists() and debugger.wire.status(thread)[1] == 1)
-            main = next(iter(debugger.wire.methods(class_)))
-            placed = debugger.wants(BREAKPOINT, struct.pack(">BB", 7, 1) + ids(class_, main, 2))
-            debugger.wire.resume()
-            kind, found, _ = debugger.event()
-            check(f"{name} stops at its second line", (kind, found) == (BREAKPOINT, placed) and ran.exists(), (kind, found))
-            debugger.wire.ask(15, 2, struct.pack(">Bi", BREAKPOINT, placed))
-            debugger.wire.resume()
-
-
-def test_classes_are_told_to_nobody(folder):
-    """Without a debugger a script does not wait for the door's next look, which comes each 100 ms."""
-    script(folder, "part.lua", "return 1")
-    main = script(folder, "main.lua", "for i = 1, 1000 do dofile('part.lua') end print('loaded')")
-    start = time.monotonic()
-    done = subprocess.run([CQLUA, "run", "--debug", "127.0.0.1:0", main], cwd=folder, capture_output=True, text=True, timeout=60)
-    check("a thousand files are loaded at once", done.stdout == "loaded\n" and time.monotonic() - start < 20, done)
+    def test_classes_are_told_to_nobody(self):
+        """Without a debugger a script does not wait for the door's next look, which comes each 100 ms."""
+        self.script("part.lua", "return 1")
+        main = self.script("main.lua", "for i = 1, 1000 do dofile('part.lua') end print('loaded')")
+        start = time.monotonic()
+        done = subprocess.run([CQLUA, "run", "--debug", "127.0.0.1:0", main], cwd=self.folder, capture_output=True, text=True,
+                              timeout=60)
+        self.assertEqual(done.stdout, "loaded\n")
+        self.assertLess(time.monotonic() - start, 20)

@@ -2,14 +2,13 @@
 import contextlib
 import http.client
 import json
-import pathlib
 import re
 import socket
 import stat
 import threading
 import time
 
-from checks import SLEEPER, WORKER, check, cqlua, script, served
+from shared import SLEEPER, WORKER, WithFolder, cqlua
 
 
 class OverPath(http.client.HTTPConnection):
@@ -37,69 +36,80 @@ def threads_of(connection):
     return threads
 
 
-def test_serve_at_a_port(folder):
-    work, sleep = script(folder, "work.lua", WORKER), script(folder, "sleep.lua", SLEEPER)
-    with served(folder, "serve", "127.0.0.1:0", work, sleep) as (host, line):
-        port = re.fullmatch(r"cqlua: serves http://127\.0\.0\.1:(\d+)/\n", line)
-        if not check("serve tells its port", port, line):
-            return
-        connection = http.client.HTTPConnection("127.0.0.1", int(port[1]), timeout=60)
-        threads = threads_of(connection)
-        check("both scripts are there", set(threads) == {"work.lua", "sleep.lua"}, threads)
-        frames = {name: [(frame["method"], frame["file"]) for frame in thread["frames"]] for name, thread in threads.items()}
-        check("a worker's functions and files", ("work", work) in frames["work.lua"] and frames["work.lua"][-1] == ("main", work), frames)
-        check("a sleeper's C function has no file", frames["sleep.lua"][0] == ("sleep", None) and threads["sleep.lua"]["state"] == "sleeping", threads)
-        lines = [frame["line"] for frame in threads["work.lua"]["frames"]]
-        check("lines are those of the source", all(line and WORKER.splitlines()[line - 1].strip() for line in lines), lines)
-        status, profile = get(connection, "/debug/pprof/profile?seconds=1&rate=200")
-        check("a profile has the names", status == 200 and b"work" in profile and work.encode() in profile and b"sleep" in profile)
-        check("metrics", b'cebdyraq_threads{state="sleeping"} 1\n' in get(connection, "/metrics")[1])
+class Serve(WithFolder):
+    def test_serve_at_a_port(self):
+        work, sleep = self.script("work.lua", WORKER), self.script("sleep.lua", SLEEPER)
+        with self.served("serve", "127.0.0.1:0", work, sleep) as (host, line):
+            self.assertRegex(line, r"\Acqlua: serves http://127\.0\.0\.1:\d+/\n\Z")
+            connection = http.client.HTTPConnection("127.0.0.1", int(re.search(r":(\d+)/", line)[1]), timeout=60)
+            threads = threads_of(connection)
+            self.assertEqual(set(threads), {"work.lua", "sleep.lua"})
+            frames = {name: [(frame["method"], frame["file"]) for frame in thread["frames"]] for name, thread in threads.items()}
+            self.assertIn(("work", work), frames["work.lua"])
+            self.assertEqual(frames["work.lua"][-1], ("main", work))
+            self.assertEqual(frames["sleep.lua"][0], ("sleep", None), "a C function has no file")
+            self.assertEqual(threads["sleep.lua"]["state"], "sleeping")
+            for frame in threads["work.lua"]["frames"]:
+                self.assertTrue(frame["line"] and WORKER.splitlines()[frame["line"] - 1].strip(), frame)
+            status, profile = get(connection, "/debug/pprof/profile?seconds=1&rate=200")
+            self.assertEqual(status, 200)
+            for name in b"work", work.encode(), b"sleep":
+                self.assertIn(name, profile)
+            self.assertIn(b'cebdyraq_threads{state="sleeping"} 1\n', get(connection, "/metrics")[1])
 
+    def test_serve_takes_two_words(self):
+        with self.served("run", f"--serve=unix:{self.folder}/socket", self.script("sleep.lua", SLEEPER)) as (host, line):
+            self.assertIn("usage", line)
 
-def test_serve_at_a_path(folder):
-    path = pathlib.Path(folder, "socket")
-    with served(folder, "run", f"--serve=unix:{path}", script(folder, "sleep.lua", SLEEPER)) as (host, line):
-        check("an option is two words", "usage" in line, line)
-    pathlib.Path(folder, "stop").unlink()
-    with served(folder, "serve", f"unix:{path}", script(folder, "sleep.lua", SLEEPER)) as (host, line):
-        check("serve tells its path", line == f"cqlua: serves unix:{path}\n", line)
-        check("the file is for this user alone", stat.S_IMODE(path.stat().st_mode) == 0o600)
-        check("it serves there", get(OverPath(str(path)), "/threads")[0] == 200)
-    check("the file is gone at the end", not path.exists())
+    def test_serve_at_a_path(self):
+        """The file is for this user alone, and gone at the end."""
+        path = self.folder / "socket"
+        with self.served("serve", f"unix:{path}", self.script("sleep.lua", SLEEPER)) as (host, line):
+            self.assertEqual(line, f"cqlua: serves unix:{path}\n")
+            self.assertEqual(stat.S_IMODE(path.stat().st_mode), 0o600)
+            self.assertEqual(get(OverPath(str(path)), "/threads")[0], 200)
+        self.assertFalse(path.exists())
 
+    def test_serve_beside_prof(self):
+        result = cqlua("prof", "--serve", "127.0.0.1:0", "--rate", "100", "-e", "N = 100", "spectral_norm.lua")
+        self.assertIn("cqlua: serves http://127.0.0.1:", result.stderr)
+        self.assertIn("main (", result.stdout)
+        self.assertEqual(result.returncode, 0)
 
-def test_serve_beside_prof(folder):
-    result = cqlua("prof", "--serve", "127.0.0.1:0", "--rate", "100", "-e", "N = 100", "spectral_norm.lua")
-    check("prof serves besides", "cqlua: serves http://127.0.0.1:" in result.stderr and "main (" in result.stdout and not result.returncode,
-          result.stderr)
+    def refuses(self, address, why):
+        result = cqlua("serve", address, self.script("sleep.lua", SLEEPER))
+        self.assertIn(why, result.stderr)
+        self.assertEqual(result.returncode, 1)
 
+    def test_serve_at_no_such_address(self):
+        for address in "6060", "0.0.0.0:6060", "127.0.0.1:65536":
+            with self.subTest(address):
+                self.refuses(address, "is refused with code 103")
 
-def test_serve_refuses(folder):
-    sleep = script(folder, "sleep.lua", SLEEPER)
-    for address in ("6060", "0.0.0.0:6060", "127.0.0.1:65536"):
-        result = cqlua("serve", address, sleep)
-        check(f"no such address: {address}", result.returncode == 1 and "is refused with code 103" in result.stderr, result.stderr)
-    with socket.socket() as taken:
-        taken.bind(("127.0.0.1", 0))
-        taken.listen()
-        result = cqlua("serve", f"127.0.0.1:{taken.getsockname()[1]}", sleep)
-        check("a port that is in use", result.returncode == 1 and "Address already in use" in result.stderr, result.stderr)
-    check("usage", cqlua("serve").returncode == 2 and cqlua("serve", "127.0.0.1:0").returncode == 2 and
-          cqlua("run", "--no-service", "--serve", "127.0.0.1:0", sleep).returncode == 2)
+    def test_serve_at_a_port_in_use(self):
+        with socket.socket() as taken:
+            taken.bind(("127.0.0.1", 0))
+            taken.listen()
+            self.refuses(f"127.0.0.1:{taken.getsockname()[1]}", "Address already in use")
 
+    def test_serve_usage(self):
+        for words in ["serve"], ["serve", "127.0.0.1:0"], ["run", "--no-service", "--serve", "127.0.0.1:0", self.script("sleep.lua", SLEEPER)]:
+            with self.subTest(words[:2]):
+                self.assertEqual(cqlua(*words).returncode, 2)
 
-def test_scripts_end_while_clients_wait(folder):
-    """A profile that is under way is cut off when the last script has ended, and the host ends."""
-    with served(folder, "serve", "127.0.0.1:0", "-e", "N = 300", "spectral_norm.lua") as (host, line):
-        connection = http.client.HTTPConnection("127.0.0.1", int(re.search(r":(\d+)/", line)[1]), timeout=60)
+    def test_scripts_end_while_clients_wait(self):
+        """A profile that is under way is cut off when the last script has ended, and the host ends."""
+        with self.served("serve", "127.0.0.1:0", "-e", "N = 300", "spectral_norm.lua") as (host, line):
+            connection = http.client.HTTPConnection("127.0.0.1", int(re.search(r":(\d+)/", line)[1]), timeout=60)
 
-        def ask():
-            with contextlib.suppress(OSError, http.client.HTTPException):
-                get(connection, "/debug/pprof/profile?seconds=300")
+            def ask():
+                with contextlib.suppress(OSError, http.client.HTTPException):
+                    get(connection, "/debug/pprof/profile?seconds=300")
 
-        waits = threading.Thread(target=ask)
-        waits.start()
-        began = time.monotonic()
-        host.wait(timeout=120)
-        waits.join(timeout=60)
-        check("the host ends with its last script", not waits.is_alive() and time.monotonic() - began < 60)
+            waits = threading.Thread(target=ask)
+            waits.start()
+            began = time.monotonic()
+            host.wait(timeout=120)
+            waits.join(timeout=60)
+            self.assertFalse(waits.is_alive())
+            self.assertLess(time.monotonic() - began, 60)

@@ -1,13 +1,11 @@
 """What a debugger is told of the variables of scripts. The values are those of their sources."""
 import contextlib
 import math
-import pathlib
-import re
 import subprocess
 import time
 
-from checks import CQLUA, SCRIPTS, check, script, served
 from jdwp import PATIENCE, Error
+from shared import CQLUA, SCRIPTS, WithFolder
 from tests_attach import attach
 
 ABSENT, THREAD_NOT_SUSPENDED = 101, 13
@@ -105,135 +103,132 @@ def await_stack(wire, thread, newest):
         wire.resume(thread)
 
 
-@contextlib.contextmanager
-def suspended(folder, text, newest="C.sleep.sleep"):
-    """A script, suspended as soon as this is its newest function, and what it has written."""
-    script(folder, "shown.lua", text)
-    with served(folder, "run", "--debug", "127.0.0.1:0", "shown.lua", where=folder) as (host, line), attach(line) as wire:
-        thread = wire.threads(1)["shown.lua"]
-        await_stack(wire, thread, newest)
-        try:
-            yield Thread(wire, thread), host
-        finally:
-            host.kill()
+class Variables(WithFolder):
+    @contextlib.contextmanager
+    def suspended(self, text, newest="C.sleep.sleep"):
+        """A script, suspended as soon as this is its newest function, and what it has written."""
+        self.script("shown.lua", text)
+        with self.served("run", "--debug", "127.0.0.1:0", "shown.lua", where=self.folder) as (host, line), attach(line) as wire:
+            thread = wire.threads(1)["shown.lua"]
+            await_stack(wire, thread, newest)
+            try:
+                yield Thread(wire, thread), host
+            finally:
+                host.kill()
 
-
-def test_variables_of_each_kind(folder):
-    with suspended(folder, KINDS) as (thread, host):
-        call, native, routine, within = host.stdout.readline().rstrip("\n").split("\t")
-        found = thread.locals(1)
+    def test_variables_of_each_kind(self):
+        """Numbers keep their kinds. No metamethod is called. A long text is cut between characters, also within a table."""
+        with self.suspended(KINDS) as (thread, host):
+            call, native, routine, within = host.stdout.readline().rstrip("\n").split("\t")
+            found = thread.locals(1)
         long, wordy, file = found.pop("long"), found.pop("wordy"), found.pop("file")
         refuses, holds = found.pop("refuses"), found.pop("holds")
-        wanted = {
+        self.assertEqual(found, {
             "nothing": None, "yes": True, "no": False, "small": 7, "most": 2 ** 63 - 1, "least": -2 ** 63, "half": 0.5,
             "whole": 2.0, "huge": math.inf, "text": "gr\u00fcn", "bytes": "a\\xFFb\\xE2\\x82", "zero": "a\0b", "none": "",
             "list": ["1 = 10", "2 = 20", "3 = 30"], "empty": [], "field": ["name = Ann"], "floats": ["1.5 = 2.0"],
             "flags": ["true = false"], "nested": [f"1 = {within}"], "many": [f"{i} = {i}" for i in range(1, 101)] + ["..."],
             "hundred": [f"{i} = {i}" for i in range(1, 101)], "strange": ["1 = 1"], "call": call, "native": native,
             "routine": routine,
-        }
-        check("each kind of value is shown", found == wanted,
-              {name: (found.get(name), wanted.get(name)) for name in {**found, **wanted} if found.get(name) != wanted.get(name)})
-        check("numbers keep their kinds", type(found["whole"]) is float and type(found["small"]) is int)
-        check("no metamethod is called for a table within", re.fullmatch(r"1 = table: 0x[0-9a-f]+", holds[0]), holds)
-        check("nor for a table of them", sorted(entry.partition(" = ")[0] for entry in refuses) ==
-              ["__eq", "__index", "__len", "__name", "__pairs", "__tostring"], refuses)
-        check("nor for userdata", re.fullmatch(r"userdata: 0x[0-9a-f]+", file), file)
+        })
+        self.assertEqual((type(found["whole"]), type(found["small"])), (float, int))
+        self.assertRegex(holds[0], r"\A1 = table: 0x[0-9a-f]+\Z")
+        self.assertEqual(sorted(entry.partition(" = ")[0] for entry in refuses),
+                         ["__eq", "__index", "__len", "__name", "__pairs", "__tostring"])
+        self.assertRegex(file, r"\Auserdata: 0x[0-9a-f]+\Z")
         shown = long.removesuffix("...")
-        check("a long text is cut between characters", shown != long and set(shown) == {"\u20ac"} and
-              65500 < len(long.encode()) <= 65536, len(long))
-        check("a text within a table is cut", re.fullmatch(r"1 = a{200,300}\.\.\.", wordy[0]) and wordy[1] == "2 = \\xFF", wordy)
+        self.assertNotEqual(shown, long)
+        self.assertEqual(set(shown), {"\u20ac"})
+        self.assertTrue(65500 < len(long.encode()) <= 65536, len(long))
+        self.assertRegex(wordy[0], r"\A1 = a{200,300}\.\.\.\Z")
+        self.assertEqual(wordy[1], "2 = \\xFF")
 
+    def test_variables_of_scopes(self):
+        """A block's variable hides the function's. One is there from the line behind its own, and an upvalue everywhere. A C function
+        has none that are known."""
+        with self.suspended(SCOPES) as (thread, _):
+            self.assertEqual(thread.locals(1), {"n": 3, "kept": "within", "later": None})
+            caller = thread.locals(2)
+            function = caller.pop("blocks")
+            self.assertTrue(function.startswith("function: 0x"), function)
+            self.assertEqual(caller, {"before": "an upvalue!", "other": "an upvalue"})
+            main = thread.locals(3)
+            self.assertEqual(main.pop("blocks"), function)
+            self.assertTrue(main.pop("caller").startswith("function: 0x"))
+            self.assertEqual(main, {"other": "an upvalue", "unused": 1})
+            self.assertEqual(thread.error(0), ABSENT)
 
-def test_variables_of_scopes(folder):
-    with suspended(folder, SCOPES) as (thread, _):
-        check("a block's variable hides the function's", thread.locals(1) == {"n": 3, "kept": "within", "later": None},
-              thread.locals(1))
-        caller = thread.locals(2)
-        function = caller.pop("blocks")
-        check("a variable is there from the line behind its own, and an upvalue everywhere",
-              caller == {"before": "an upvalue!", "other": "an upvalue"} and function.startswith("function: 0x"), caller)
-        main = thread.locals(3)
-        check("the chunk's own variables", main.pop("blocks") == function and main.pop("caller").startswith("function: 0x") and
-              main == {"other": "an upvalue", "unused": 1}, main)
-        check("a C function has none that are known", thread.error(0) == ABSENT)
+    def test_variables_of_frames(self):
+        """Frames of one function have their own, and so have those of a coroutine and of the function that resumed it."""
+        with self.suspended(FRAMES) as (thread, _):
+            found = [thread.locals(depth) for depth in range(1, 5)]
+            upvalue = found[0]["bottom"]
+            self.assertEqual(found[:3], [{"n": n, "bottom": upvalue} for n in range(3)])
+            self.assertEqual(found[3], {"word": "four", "depth": 4, "bottom": upvalue})
+            self.assertEqual(sorted(thread.locals(6)), ["bottom", "routine"])
 
+    def test_variables_of_a_deep_stack(self):
+        """The newest and the oldest frames have variables, and the frame for those between has none. The oldest is the chunk's."""
+        text = "local function deep(n) if n == 0 then sleep(1e6) end\nreturn 1 + deep(n - 1) end\ndeep(700)\n"
+        with self.suspended(text) as (thread, _):
+            found = {depth: thread.locals(depth)["n"] for depth in (1, 2, 100, 479, 481, 482, 510)}
+            self.assertEqual(found, {1: 0, 2: 1, 100: 99, 479: 478, 481: 671, 482: 672, 510: 700})
+            self.assertEqual(thread.error(480), ABSENT)
+            self.assertEqual(list(thread.locals(511)), ["deep"])
 
-def test_variables_of_frames(folder):
-    with suspended(folder, FRAMES) as (thread, _):
-        found = [thread.locals(depth) for depth in range(1, 5)]
-        upvalue = found[0]["bottom"]
-        check("frames of one function have their own", found[:3] == [{"n": n, "bottom": upvalue} for n in range(3)], found)
-        check("frames of a coroutine", found[3] == {"word": "four", "depth": 4, "bottom": upvalue}, found[3])
-        check("frames of the one that resumed it", sorted(thread.locals(6)) == ["bottom", "routine"], thread.locals(6))
+    def test_variables_of_what_is_no_file(self):
+        """The function of a text has none that are known. Its caller has."""
+        text = "local made = load('local inner = ...; sleep(1e6) return inner', '=made')\nmade(1)\n"
+        with self.suspended(text) as (thread, _):
+            self.assertEqual(thread.error(1), ABSENT)
+            self.assertEqual(list(thread.locals(2)), ["made"])
 
+    def test_variables_of_a_thread_that_runs(self):
+        with self.suspended("local n = 1\n" + WAIT) as (thread, _):
+            wire, frame = thread.wire, thread.wire.frames(thread.thread)[1]
+            wire.resume(thread.thread)
+            with self.assertRaises(Error) as refused:
+                wire.values(thread.thread, frame.frame, [0])
+            self.assertEqual(refused.exception.args[0], THREAD_NOT_SUSPENDED)
 
-def test_variables_of_a_deep_stack(folder):
-    text = "local function deep(n) if n == 0 then sleep(1e6) end\nreturn 1 + deep(n - 1) end\ndeep(700)\n"
-    with suspended(folder, text) as (thread, _):
-        found = {depth: thread.locals(depth)["n"] for depth in (1, 2, 100, 479, 481, 482, 510)}
-        wanted = {1: 0, 2: 1, 100: 99, 479: 478, 481: 671, 482: 672, 510: 700}
-        check("the newest and the oldest frames have variables", found == wanted, found)
-        check("the frame for those between has none", thread.error(480) == ABSENT)
-        check("the oldest frame is the chunk's", list(thread.locals(511)) == ["deep"], thread.locals(511))
+    @contextlib.contextmanager
+    def debugged(self, command, *words, **more):
+        """A host with standard input that a debugger has attached to, and the debugger."""
+        with subprocess.Popen([CQLUA, command, "--debug", "127.0.0.1:0", *words], text=True, stdin=subprocess.PIPE,
+                              stderr=subprocess.PIPE, **more) as host:
+            try:
+                with attach(host.stderr.readline()) as wire:
+                    yield host, wire
+            finally:
+                host.kill()
 
+    def test_variables_of_native_code(self):
+        """It may use the state, so nothing is told. Once it waits to return, it is."""
+        self.script("reads.lua", "local n = 1\nlocal line = io.read()\nlocal m = 2\nprint(n, line)\n" + WAIT)
+        with self.debugged("run", "-e", "STOP = 'none'", "reads.lua", cwd=self.folder, stdout=subprocess.DEVNULL) as (host, wire):
+            thread = Thread(wire, wire.threads(1)["reads.lua"])
+            await_stack(wire, thread.thread, "C.read.read")
+            self.assertEqual(thread.error(1), THREAD_NOT_SUSPENDED)
+            host.stdin.write("a line\n")
+            host.stdin.flush()
+            end = time.monotonic() + PATIENCE
+            while thread.error(1) and time.monotonic() < end:
+                pass
+            self.assertEqual(thread.locals(1), {"n": 1})
 
-def test_variables_of_what_is_no_file(folder):
-    text = "local made = load('local inner = ...; sleep(1e6) return inner', '=made')\nmade(1)\n"
-    with suspended(folder, text) as (thread, _):
-        check("the function of a text has none that are known", thread.error(1) == ABSENT)
-        check("who calls it has", list(thread.locals(2)) == ["made"], thread.locals(2))
-
-
-def test_variables_of_a_thread_that_runs(folder):
-    with suspended(folder, "local n = 1\n" + WAIT) as (thread, _):
-        wire, frame = thread.wire, thread.wire.frames(thread.thread)[1]
-        wire.resume(thread.thread)
-        try:
-            wire.values(thread.thread, frame.frame, [0])
-            check("a thread that runs is refused", False)
-        except Error as error:
-            check("a thread that runs is refused", error.args[0] == THREAD_NOT_SUSPENDED, error)
-
-
-def test_variables_of_native_code(folder):
-    script(folder, "reads.lua", "local n = 1\nlocal line = io.read()\nlocal m = 2\nprint(n, line)\n" + WAIT)
-    with subprocess.Popen([CQLUA, "run", "--debug", "127.0.0.1:0", "-e", "STOP = 'none'", "reads.lua"], cwd=folder, text=True,
-                          stdin=subprocess.PIPE, stdout=subprocess.PIPE, stderr=subprocess.PIPE) as host:
-        try:
-            with attach(host.stderr.readline()) as wire:
-                thread = Thread(wire, wire.threads(1)["reads.lua"])
-                await_stack(wire, thread.thread, "C.read.read")
-                check("native code may use the state: nothing is told", thread.error(1) == THREAD_NOT_SUSPENDED)
-                host.stdin.write("a line\n")
+    def test_variables_while_another_resumes(self):
+        """The terminal's debugger lets a thread go on, and holds it again, while its variables are asked for: they are told, or
+        refused."""
+        text = "local function step(n)\n    local twice = 2 * n\n    return twice\nend\nlocal n = 0\nwhile true do n = step(n) % 1000 + 1 end\n"
+        with self.debugged("debug", self.script("steps.lua", text), cwd=SCRIPTS, stdout=subprocess.DEVNULL) as (host, wire):
+            thread, told = wire.threads(1)["steps.lua"], 0
+            for _ in range(300):
+                wire.suspend(thread)
+                host.stdin.write("resume 0\nsuspend 0\n" * 3)
                 host.stdin.flush()
-                end, error = time.monotonic() + PATIENCE, THREAD_NOT_SUSPENDED
-                while error and time.monotonic() < end:
-                    error = thread.error(1)
-                check("once it waits to return, it is told", thread.locals(1) == {"n": 1}, thread.locals(1))
-        finally:
-            host.kill()
-
-
-def test_variables_while_another_resumes(folder):
-    """The terminal's debugger lets a thread go on, and holds it again, while its variables are asked for."""
-    text = "local function step(n)\n    local twice = 2 * n\n    return twice\nend\nlocal n = 0\nwhile true do n = step(n) % 1000 + 1 end\n"
-    path = script(folder, "steps.lua", text)
-    with subprocess.Popen([CQLUA, "debug", "--debug", "127.0.0.1:0", path], cwd=SCRIPTS, stdin=subprocess.PIPE,
-                          stdout=subprocess.DEVNULL, stderr=subprocess.PIPE, text=True) as host:
-        try:
-            with attach(host.stderr.readline()) as wire:
-                thread, told, refused = wire.threads(1)["steps.lua"], 0, 0
-                for _ in range(300):
-                    wire.suspend(thread)
-                    host.stdin.write("resume 0\nsuspend 0\n" * 3)
-                    host.stdin.flush()
-                    try:
-                        found = wire.locals(thread, -1)
-                        told += type(found["n"]) is int
-                    except (Error, IndexError):
-                        refused += 1
-                    wire.resume(thread)
-                check("values are told, or refused", told + refused == 300 and told > 0 and host.poll() is None, (told, refused))
-        finally:
-            host.kill()
+                with contextlib.suppress(Error, IndexError):
+                    self.assertIs(type(wire.locals(thread, -1)["n"]), int)
+                    told += 1
+                wire.resume(thread)
+            self.assertGreater(told, 0)
+            self.assertIsNone(host.poll())

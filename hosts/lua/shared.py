@@ -1,9 +1,11 @@
-"""What the tests have in common: how a program is run, a debugger is talked to, and a check is counted."""
+"""What the tests share: how a script is run or served, and how the debugger on the terminal is talked to."""
 import contextlib
 import os
 import pathlib
 import shutil
 import subprocess
+import tempfile
+import unittest
 
 HERE = pathlib.Path(__file__).resolve().parent
 SCRIPTS = HERE / "scripts"
@@ -31,14 +33,6 @@ SLEEPER = """
     print("the sleeper has ended")
 """
 
-passed, failed = [], []
-
-
-def check(name, ok, detail=""):
-    (passed if ok else failed).append(name)
-    print(("ok      " if ok else "FAILED  ") + name + (f": {detail}" if detail and not ok else ""), flush=True)
-    return ok
-
 
 def run(*words, **more):
     return subprocess.run(words, cwd=SCRIPTS, capture_output=True, text=True, timeout=600, **more)
@@ -48,23 +42,31 @@ def cqlua(*words, **more):
     return run(CQLUA, *words, **more)
 
 
-def script(folder, name, text):
-    path = pathlib.Path(folder) / name
-    path.write_text(text)
-    return str(path)
+class WithFolder(unittest.TestCase):
+    """A test that has a folder for its scripts."""
 
+    def setUp(self):
+        folder = tempfile.TemporaryDirectory()
+        self.addCleanup(folder.cleanup)
+        self.folder = pathlib.Path(folder.name)
+        self.stop = self.folder / "stop"
 
-@contextlib.contextmanager
-def served(folder, *words, where=SCRIPTS):
-    """A host whose first line on standard error tells where it listens."""
-    stop, options = pathlib.Path(folder, "stop"), 2 if words[0] == "serve" else 1
-    command = [CQLUA, *words[:options], "-e", f"STOP = '{stop}'", *words[options:]]
-    with subprocess.Popen(command, cwd=where, stderr=subprocess.PIPE, stdout=subprocess.PIPE, text=True) as host:
-        try:
-            yield host, host.stderr.readline()
-        finally:
-            stop.touch()
-            host.communicate(timeout=60)
+    def script(self, name, text):
+        path = self.folder / name
+        path.write_text(text)
+        return str(path)
+
+    @contextlib.contextmanager
+    def served(self, *words, where=SCRIPTS):
+        """A host whose first line on standard error tells where it listens. Its scripts end when there is a file STOP."""
+        options = 2 if words[0] == "serve" else 1
+        command = [CQLUA, *words[:options], "-e", f"STOP = '{self.stop}'", *words[options:]]
+        with subprocess.Popen(command, cwd=where, stderr=subprocess.PIPE, stdout=subprocess.PIPE, text=True) as host:
+            try:
+                yield host, host.stderr.readline()
+            finally:
+                self.stop.touch()
+                host.communicate(timeout=60)
 
 
 class Debugger:
