@@ -1,18 +1,5 @@
-# `make run` builds the program and runs it on a first example. `make test` is the whole gate: with `rt ci` it runs the tests of
-# `tests/crates`, all cases, the C programs of `tests/c` and the snippets of the pages (`ci/gate.py`).
-# `make examples`, `make cases`, `make bench` and `make refused` run the program that `make run` has built: on the examples,
-# on all cases, on large documents (and programs that hold cells and run threads), and with each allocation, each start of a
-# thread, each read and each write refused in turn (and the tests of a core so). `make stress` runs it on random live documents,
-# and lets 10,000 threads come to a service and go. `make edits` tries the edits that the gate leaves out. `make bench` and
-# `make stress` prove and build the program of `bench/tibench`, which the gate only tries.
-# `make lib` builds the library for C into `dist/`. `make capi` tests it: by C programs, under sanitizers and valgrind, by the
-# bindings for Rust and Python, and as it is installed (`make installed`). `make lua` builds the Lua host of `hosts/lua` over it,
-# and tests that. `make serve` has pprof and Prometheus read what a Lua program serves, and `make jdb` has jdb attach to one. `make install` installs what `make lib` has built, and the programs that are built, below PREFIX. `make uninstall`
-# removes them.
-# `make jvm` carries walks out on a Java VM and compares its answers with the program's lines, and what the library tells of the VM's
-# classes with what JVM TI tells. `make try` runs the program on all
-# examples without proving anything.
-# `make model` goes through the schedules of the waiting layer with each fault planted, and through two models of it (tests/model).
+# CONTRIBUTING.md says what each target is for and what it needs, ci/README.md and tests/README.md what each script shows.
+# `make install` installs what `make lib` has built, and the programs that are built, below PREFIX. `make uninstall` removes them.
 .PHONY: run try test examples cases bench refused stress edits lib capi installed lua serve jdb install uninstall jvm model
 
 CAPI = crates/ti_capi/out/libti_capi.a
