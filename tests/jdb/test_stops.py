@@ -76,9 +76,12 @@ class AtOneScript(unittest.TestCase):
         self.assertTrue(self.runs_on())
 
     def test_function(self):
-        self.assertEqual(self.stops("stop in counts.add"), hit("counts.add", 3))
-        self.assertEqual(self.stops("cont"), hit("counts.add", 3))
-        self.assertEqual(self.jdb.say("where").splitlines()[1], "  [2] counts.work (counts.lua:10)")
+        """It is called from two lines in turn. Either call may be the first that stops."""
+        callers = set()
+        for command in "stop in counts.add", "cont":
+            self.assertEqual(self.stops(command), hit("counts.add", 3))
+            callers.add(self.jdb.say("where").splitlines()[1])
+        self.assertEqual(callers, {f"  [2] counts.work (counts.lua:{line})" for line in (9, 10)})
 
     def test_wrong_line(self):
         self.assertIn("No code at line 6 in counts", self.jdb.say("stop at counts:6"))
