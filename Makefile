@@ -12,8 +12,8 @@ try:
 	python3 ci/try_examples.py
 
 test:
-	python3 ci/edits.py --apply
-	python3 ci/pages.py
+	python3 ci/tap.py ci/edits.py --apply
+	python3 ci/tap.py ci/pages.py
 	python3 ci/proved.py
 	python3 ci/generate.py --check
 	python3 ci/doc_examples.py

@@ -1,4 +1,7 @@
+#!/usr/bin/env python3
 """TAP, the Test Anything Protocol (https://testanything.org): what a test program writes, and what the gate reads.
+
+    ci/tap.py PROGRAM.py [WORD..]      runs a test program, and shows only what did not pass, and the counts
 
 A test program prints its results by a `Tap`, or gives its tests of unittest to `run`. The plan comes last, so a program that ends early
 has none.
@@ -201,3 +204,15 @@ def read(name, command):
     if fault := reader.fault(program.returncode):
         suite.fail(fault)
     return suite
+
+
+def main():
+    if not sys.argv[1:]:
+        sys.exit(__doc__.strip())
+    suite = read(sys.argv[1], [sys.executable, *sys.argv[1:]])
+    print(suite)
+    return 1 if suite.failed else 0
+
+
+if __name__ == "__main__":
+    sys.exit(main())
