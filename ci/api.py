@@ -122,7 +122,7 @@ class Api:
 
 
 ENUM = re.compile(r"^enum (\w+ )?\{(.*?)\};", re.M | re.S)
-ENUMERATOR = re.compile(r"(CQ_\w+) = (\w+),?\s*(?:/\*(.*?)\*/)?", re.S)
+ENUMERATOR = re.compile(r"(CQ_\w+) = (\w+),?[ \t]*(?:/\*(.*?)\*/)?", re.S)
 DEFINE = re.compile(r"^#define (CQ_(?!VERSION_|MUST_USE)\w+) (\w+)$", re.M)
 STRUCT = re.compile(r"^typedef struct \{(.*?)\} (cq_\w+);", re.M | re.S)
 FORWARD = re.compile(r"^typedef struct (cq_\w+) \1;", re.M)

@@ -80,6 +80,9 @@ def quoted(text):
 
 def codes_file(table):
     codes = table.enum("cq_code").constants
+    for one in codes:
+        if not one.meaning:
+            raise ValueError(f"nothing beside {one.name} says when it comes")
     names = "\n".join(f"    case {one.name}: return {quoted(one.name)};" for one in codes)
     texts = "\n".join(f"    case {one.name}: return {quoted(one.plain)};" for one in codes)
     return CODES.format(said=SAID, names=names, texts=texts)
