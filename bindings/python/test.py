@@ -170,8 +170,9 @@ class WithRuntime(unittest.TestCase):
         env.set_stop_notification_mode(True, cebdyraq.StopKind.BREAKPOINT)
         stop = cebdyraq.Stop(thread, 1, 8, cebdyraq.StopReason.BREAKPOINT)
         self.assertEqual(env.next_stop(), stop)
-        self.assertEqual(env.get_thread_state(thread), 0x291)
+        # The stop is told before the thread has blocked. The count waits until it has.
         self.assertEqual(env.get_frame_count(thread), 2)
+        self.assertEqual(env.get_thread_state(thread), 0x291)
         env.clear_breakpoint(1, 8)
         env.set_stop_notification_mode(True, cebdyraq.StopKind.SINGLE_STEP, thread)
         env.end_stop(thread)
