@@ -107,7 +107,7 @@ def fault_of(case, program):
     try:
         return difference(case.wanted, case.run(program))
     except (OSError, subprocess.TimeoutExpired) as error:
-        return str(error)
+        return repr(error)
 
 
 def run_all(told, program, only_examples=False):

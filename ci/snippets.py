@@ -96,7 +96,7 @@ def fault_of(snippet):
         try:
             done = RUNS[snippet.kind](snippet.text, folder)
         except (OSError, ValueError, subprocess.TimeoutExpired) as error:
-            return str(error)
+            return repr(error)
     if done.returncode:
         return f"status {done.returncode}\n{done.stdout}{done.stderr}"
     if snippet.wanted is not None and done.stdout != snippet.wanted:

@@ -43,7 +43,8 @@ class EndBySignal(WithFolder):
     def begin(self, *words, stream="stdout", **more):
         """A process that has written a first line."""
         process = subprocess.Popen([CQLUA, "prof", *words], cwd=SCRIPTS, stdout=subprocess.PIPE, stderr=subprocess.PIPE, text=True, **more)
-        self.addCleanup(lambda: (process.stdout.close(), process.stderr.close()))
+        self.addCleanup(process.__exit__, None, None, None)
+        self.addCleanup(process.kill)
         if stream:
             getattr(process, stream).readline()
         return process

@@ -66,7 +66,7 @@ class FirstDebugger(unittest.TestCase):
 
     def test_all_scripts_wait(self):
         with places.scripts("once", "./once", suspended=True) as host, attached(host) as jdb:
-            self.assertEqual(len(re.findall(r"once\.lua", jdb.say("threads"))), 2)
+            self.assertEqual(len(re.findall(r"once\.lua", jdb.say_until("threads", r"once\.lua"))), 2)
             jdb.process.stdin.write(b"resume\n")
             jdb.process.stdin.flush()
             self.ends(host, ["once\t6", "once\t6"])
