@@ -14,8 +14,8 @@ try:
 test:
 	python3 ci/tap.py ci/edits.py --apply
 	python3 ci/tap.py ci/pages.py
-	python3 ci/proved.py
-	python3 ci/generate.py --check
+	python3 ci/tap.py ci/proved.py
+	python3 ci/tap.py ci/generate.py --check
 	python3 ci/doc_examples.py
 	python3 ci/gate.py $(JUNIT)
 

@@ -6,7 +6,7 @@ declarations of the bindings, the page of codes, and the version wherever it sta
     ci/generate.py --check    writes nothing, and fails if a file is not as it would be written
 
 A file of WHOLE is written whole. In one of BLOCKS a block is, between a line that says so and a line that ends it, and in one of VERSIONS
-the version. What is generated is kept in the repository, so nobody who builds needs this. The last line is 'N passed, M failed', of files.
+the version. What is generated is kept in the repository, so nobody who builds needs this. --check writes TAP.
 """
 
 import difflib
@@ -23,6 +23,7 @@ import made_c
 import made_page
 import made_python
 import made_rust
+import tap
 
 TOP = header.C.parent
 WHOLE = {
@@ -90,17 +91,17 @@ def generated(table):
     return files
 
 
-def is_as(path, text):
-    """Whether a file has this text. Otherwise shows how it differs."""
+def difference(path, text):
+    """How a file differs from this text, or an empty text."""
     before = (TOP / path).read_text() if (TOP / path).exists() else ""
-    sys.stdout.writelines(difflib.unified_diff(before.splitlines(True), text.splitlines(True), path, f"{path}, as generated"))
-    return before == text
+    return "".join(difflib.unified_diff(before.splitlines(True), text.splitlines(True), path, f"{path}, as generated"))
 
 
 def check(files):
-    right = sum([is_as(path, text) for path, text in files.items()])
-    print(f"{right} passed, {len(files) - right} failed")
-    return right == len(files)
+    told = tap.Tap()
+    for path, text in files.items():
+        told.result(path, difference(path, text))
+    return told.end()
 
 
 def write(files):
@@ -108,7 +109,7 @@ def write(files):
         if not (TOP / path).exists() or (TOP / path).read_text() != text:
             (TOP / path).write_text(text)
             print(f"written: {path}")
-    return True
+    return 0
 
 
 def main(words):
@@ -118,7 +119,7 @@ def main(words):
         files = generated(api.read())
     except (SyntaxError, ValueError) as why:
         sys.exit(f"refused: {why}")
-    return 0 if (check if words else write)(files) else 1
+    return (check if words else write)(files)
 
 
 if __name__ == "__main__":

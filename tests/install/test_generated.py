@@ -71,7 +71,7 @@ def copy():
 class Generated(unittest.TestCase):
     def test_each_file_is_as_the_headers_say(self):
         said = run(sys.executable, TOP / "ci/generate.py", "--check")
-        self.assertRegex(said, r"^[1-9]\d* passed, 0 failed\n$")
+        self.assertRegex(said, r"\n1\.\.[1-9]\d*\n$")
 
     def test_mistakes_are_refused(self):
         for what, name, before, after, why in MISTAKES:
