@@ -20,7 +20,7 @@ int agent_open(struct agent *agent, struct host *host, uint32_t capabilities) {
     if (code == CQ_OK)
         code = cq_add_capabilities(&agent->env, capabilities);
     if (code != CQ_OK) {
-        fprintf(stderr, "cqlua: the agent is refused with code %u\n", code);
+        fprintf(stderr, "cqlua: the agent is refused with code %u: %s\n", code, cq_code_text(code));
         return -1;
     }
     return 0;

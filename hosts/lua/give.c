@@ -9,7 +9,7 @@ bool complain(struct script *script, const char *what, uint32_t code) {
     if (code == CQ_OK)
         return false;
     if (!script->complained)
-        fprintf(stderr, "cqlua: %s: %s is refused with code %u\n", script->path, what, code);
+        fprintf(stderr, "cqlua: %s: %s is refused with code %u: %s\n", script->path, what, code, cq_code_text(code));
     script->complained = true;
     return true;
 }

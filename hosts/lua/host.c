@@ -252,7 +252,7 @@ static uint32_t attach(struct host *host, struct script *script) {
 }
 
 static int refused(const char *what, uint32_t code) {
-    fprintf(stderr, "cqlua: %s is refused with code %u\n", what, code);
+    fprintf(stderr, "cqlua: %s is refused with code %u: %s\n", what, code, cq_code_text(code));
     return -1;
 }
 
