@@ -303,17 +303,17 @@ void cq_wake(cq_signal *signal) {
 }
 
 /* The code of a call by which a thread may have handed over. If it has, callers that wait for its answers go on. */
-static uint32_t handed_over(const waiter *w, cq_thread *thread) {
-    if ((w->code == CQ_OK || w->code == CQ_HELD) && has_sleepers(&w->signal->agents)) {
-        wake(&w->signal->agents, bit_of_own(thread));
+static uint32_t handed_over(cq_thread *thread, cq_signal *signal, uint32_t code) {
+    if ((code == CQ_OK || code == CQ_HELD) && has_sleepers(&signal->agents)) {
+        wake(&signal->agents, bit_of_own(thread));
     }
-    return w->code;
+    return code;
 }
 
 /* The code of a call by which a thread may go on. */
-static uint32_t goes_on(const waiter *w) {
-    if (w->code == CQ_OK) thread_follows(w->signal);
-    return w->code;
+static uint32_t goes_on(cq_signal *signal, uint32_t code) {
+    if (code == CQ_OK) thread_follows(signal);
+    return code;
 }
 
 /* The code of a call whose answer may be there. */
@@ -357,7 +357,7 @@ uint32_t cq_wait_start(cq_thread *thread, cq_signal *signal, int64_t timeout_ns)
     waiter w = begin_own(thread, signal, timeout_ns);
     while (again(&w)) w.code = cq_start(thread);
     came_or_went(&w);
-    return goes_on(&w);
+    return goes_on(signal, w.code);
 }
 
 uint32_t cq_wait_poll(cq_thread *thread, cq_signal *signal) {
@@ -366,25 +366,35 @@ uint32_t cq_wait_poll(cq_thread *thread, cq_signal *signal) {
     }
     waiter w = begin_hand_over(signal);
     while (again(&w)) w.code = cq_poll(thread);
-    return handed_over(&w, thread) == CQ_HELD ? cq_wait_back(thread, signal, FOREVER) : w.code;
+    return handed_over(thread, signal, w.code) == CQ_HELD ? cq_wait_back(thread, signal, FOREVER) : w.code;
 }
 
+/* A transition mostly succeeds at once, so these make a waiter only when one did not. */
+
 uint32_t cq_wait_native(cq_thread *thread, cq_signal *signal) {
+    thread_did(signal);
+    uint32_t code = cq_native(thread);
+    if (code != CQ_BUSY) return handed_over(thread, signal, code);
     waiter w = begin_hand_over(signal);
     while (again(&w)) w.code = cq_native(thread);
-    return handed_over(&w, thread);
+    return handed_over(thread, signal, w.code);
 }
 
 uint32_t cq_wait_block(cq_thread *thread, cq_signal *signal, uint32_t reason) {
+    thread_did(signal);
+    uint32_t code = cq_block(thread, reason);
+    if (code != CQ_BUSY) return handed_over(thread, signal, code);
     waiter w = begin_hand_over(signal);
     while (again(&w)) w.code = cq_block(thread, reason);
-    return handed_over(&w, thread);
+    return handed_over(thread, signal, w.code);
 }
 
 uint32_t cq_wait_back(cq_thread *thread, cq_signal *signal, int64_t timeout_ns) {
+    uint32_t code = cq_back(thread);
+    if (code != CQ_BUSY && code != CQ_BARRED) return goes_on(signal, code);
     waiter w = begin_own(thread, signal, timeout_ns);
     while (again(&w)) w.code = cq_back(thread);
-    return goes_on(&w);
+    return goes_on(signal, w.code);
 }
 
 uint32_t cq_wait_reached(cq_thread *thread, cq_signal *signal, uint32_t method, uint32_t location, bool *stops) {
@@ -420,7 +430,7 @@ uint32_t cq_wait_end(cq_thread *thread, cq_signal *signal) {
     waiter w = begin_hand_over(signal);
     while (again(&w)) w.code = cq_end(thread);
     came_or_went(&w);
-    return handed_over(&w, thread);
+    return handed_over(thread, signal, w.code);
 }
 
 uint32_t cq_wait_detach_thread(cq_thread *thread, cq_signal *signal) {
