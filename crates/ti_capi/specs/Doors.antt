@@ -129,7 +129,7 @@ RefusesDoor name m n e = (NamesWrongly name e × (n ≡ m)) ⊎ RefusesEnv m n e
 
 -- the version of this library
 abbrev pub version : List ℕ
-version = codes "2.2.4"
+version = codes "2.3.0"
 
 -- A door without connections, with an environment of its own that came by this handle of the service. It serves the hosts of the
 -- port, and tells this name and this version

@@ -15,7 +15,7 @@ use ti_service::Service;
 use ti_types::TiError;
 
 /// The version that `/metrics` and a debugger are told, which is that of `cebdyraq.h`.
-const VERSION: &str = "2.2.4";
+const VERSION: &str = "2.3.0";
 
 /// The hosts that are served at a port. Above 65,535 there is no port, and every host is served.
 fn hosts_at(port: u32) -> Hosts
