@@ -8,6 +8,7 @@ use ti_thread::Turn;
 use ti_types::{Kind, TiError};
 
 /// The thread of a box does it.
+#[inline(always)]
 fn take_turn_in(held: &mut HeldThread, turn: Turn) -> u32
     ensures { ChangesIn (TakesTurn turn) held.old held.new result }
 {
@@ -22,6 +23,7 @@ fn take_turn_in(held: &mut HeldThread, turn: Turn) -> u32
 }
 
 /// The thread of a handle does it.
+#[inline(always)]
 fn take_turn_of(thread: &mut CqThread, turn: Turn) -> u32
     ensures { Changes (TakesTurn turn) thread.old thread.new result }
 {

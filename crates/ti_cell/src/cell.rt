@@ -200,6 +200,7 @@ impl ThreadCell {
 
     /// The same as `hold`, but it tries once and never waits. If another user holds the cell, or comes first, the seat comes
     /// back as it was.
+    #[inline(always)]
     pub fn hold_now<'a, K: Role>(&'a self, seat: CellSeat<K>) -> Result<Hold<'a, K>, CellSeat<K>>
         requires cell { seat.cell ≡ self.now }
         ensures cell { IfOk result (λ h. h.cell ≡ self.now) }

@@ -57,6 +57,7 @@ impl<'a, K: Role> Hold<'a, K> {
     }
 
     /// The same as `store`, but it wakes nobody, and makes no call of the system. `ThreadCell::wake_sleepers` wakes them.
+    #[inline(always)]
     pub fn store_quietly(self) -> CellSeat<K>
         requires adds { Adds self.view.number self.view.seen self.slot.history }
         requires keeps { Keeps self.view.number self.view.found self.slot.uncollected }

@@ -11,6 +11,7 @@ impl<'a, K: Role> Hold<'a, K> {
     /// Lends the slot that is held. What is done to it is done to the cell's.
     // The borrow checker reads this `follows` only if the row gives the cell's lifetime as `named 1`, its number in this
     // signature.
+    #[inline(always)]
     pub fn slot(&mut self) -> &mut Slot
         ensures* writes_back { sem 𝓛 (follows (the_row (record { mir = named 1; lft = [] }) K.row K.Role) slot_contracts.the_row self.entry.ghost_name result.ghost_name (with_slot self.old)) }
         ensures value { result.now ≡ self.old.slot }

@@ -32,6 +32,7 @@ impl Parked {
     }
 
     /// How many entries the thread's history has.
+    #[inline(always)]
     pub fn len(&self) -> usize
         ensures len { result ≡ length self.now.history }
         ensures legal { is_legal self.now.limits self.now.history ≡ true }
@@ -40,6 +41,7 @@ impl Parked {
     }
 
     /// How many calls that were asked from the seat of this number wait, or have an answer that is not collected.
+    #[inline(always)]
     pub fn out_of(&self, number: u32) -> u32
         ensures out { result ≡ length (tickets_of number self.now.uncollected) }
         ensures few { length (tickets_of number self.now.uncollected) ≤ length (made_by number self.now.history) }
@@ -52,6 +54,7 @@ impl Parked {
     }
 
     /// Whether the thread has to hand over at its next poll.
+    #[inline(always)]
     pub fn armed(&self) -> bool
         ensures { result ≡ is_armed self.now.limits self.now.history }
     {
@@ -59,6 +62,7 @@ impl Parked {
     }
 
     /// Whether the thread may not start or return.
+    #[inline(always)]
     pub fn barred(&self) -> bool
         ensures { result ≡ is_barred (view self.now.limits self.now.history) }
     {

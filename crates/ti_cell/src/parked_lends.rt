@@ -5,6 +5,7 @@ use ti_slot::Slot;
 
 impl Parked {
     /// Lends the slot. What is done to it is done to the parked one.
+    #[inline(always)]
     pub fn slot_mut(&mut self) -> &mut Slot
         ensures* writes_back { sem 𝓛 (follows the_row slot_contracts.the_row self.entry.ghost_name result.ghost_name (λ t. t)) }
         ensures value { result.now ≡ self.old }

@@ -78,6 +78,7 @@ impl Log {
     }
 
     /// Takes all steps away. The room stays.
+    #[inline(always)]
     pub fn clear(&mut self)
         ensures { self.new ≡ with_steps self.old [] }
     {

@@ -55,6 +55,7 @@ impl Model for AtSafe {
 
 impl AtSafe {
     /// Makes a safe thread of its parts.
+    #[inline(always)]
     pub(crate) fn of(cell: SharedCell, seat: OwnSeat, log: Log) -> AtSafe
         requires rests { RestsWith cell seat log }
         ensures of { result ≡ seat }
@@ -141,6 +142,7 @@ impl Model for Ended {
 
 impl Ended {
     /// Makes an ended thread of its parts.
+    #[inline(always)]
     pub(crate) fn of(cell: SharedCell, seat: OwnSeat) -> Ended
         requires ended { HasEnded cell seat }
         ensures of { result ≡ seat }

@@ -53,6 +53,7 @@ impl Running {
     /// barred, and stays at the poll if it is.
     ///
     /// If the cell is in use (this profile: `Busy`, 215), the error is the thread, as it was. It runs on.
+    #[inline(always)]
     pub fn poll_now(self) -> Result<Polled, Running>
         ensures entries { IfOk result (λ p. Holds self.view (view_of p) (polled self.view.subject.limits (found self.view (view_of p)) self.steps)) }
         ensures polled { IfOk result (λ p. IsPolled self p) }
@@ -100,6 +101,7 @@ impl Running {
     /// - `Busy` (215): the cell is in use. Then the thread is as it was.
     /// - `NoNativeFrame` (207): the newest frame is not native, or there is none.
     /// - `OwnSpent` (208): less than 2 is left to spend.
+    #[inline(always)]
     pub fn native_now(self) -> Result<AtSafe, (TiError, Running)>
         ensures cell { MatchResult result (λ a. a.cell ≡ self.cell) (λ e. e.1.cell ≡ self.cell) }
         ensures hold { IfOk result (λ a. Holds self.view a.view (steps_of self.steps ++ entry.Hand IntoNative ∷ [])) }
@@ -128,6 +130,7 @@ impl Running {
     }
 
     /// Hands over to native code or to a block.
+    #[inline(always)]
     pub(crate) fn hand_over_now(self, safe: Safe) -> Result<AtSafe, (TiError, Running)>
         requires no_poll { safe ≡ AtPoll → ⊥ }
         ensures cell { MatchResult result (λ a. a.cell ≡ self.cell) (λ e. e.1.cell ≡ self.cell) }
@@ -193,6 +196,7 @@ impl AtSafe {
     ///
     /// - `Barred` (206): it is suspended, or a stop is in force.
     /// - `Busy` (215): the cell is in use (this profile). Then the thread is as it was.
+    #[inline(always)]
     pub fn back_now(self) -> Result<Running, (TiError, AtSafe)>
         ensures cell { MatchResult result (λ r. r.cell ≡ self.cell) (λ e. e.1.cell ≡ self.cell) }
         ensures hold { IfOk result (λ r. Holds self.view r.view (entry.Back ∷ [])) }

@@ -104,6 +104,7 @@ pub fn stack(condition: &Condition, frames: &Frames, max_count: i32, buf: TraceB
 }
 
 /// Lets the waiting calls take place, one after another. A pop among them takes a frame away.
+#[inline(never)]
 pub fn serve(condition: &mut Condition, frames: &mut Frames, limits: &Limits, ops: &mut PendingOps)
     requires ready { AreReady limits.now ops.old.waiting }
     requires depth { frames.old.depth ≡ limits.now.depth }

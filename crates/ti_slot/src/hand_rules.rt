@@ -7,6 +7,7 @@ use ti_types::{Limits, Place, Safe, TiError};
 ///
 /// - `NoNativeFrame` (207): to native, and its newest frame is not native, or there is none.
 /// - `OwnSpent` (208): to native or blocked, and less than 2 is left.
+#[inline(always)]
 pub fn refusal_of_hand(limits: &Limits, frames: &Frames, own: u64, safe: Safe) -> Option<TiError>
     requires { own ≤ limits.now.own }
     ensures { (v : ThreadView) → runs_is v.mode ≡ true → v.frames ≡ frames.now.frames → result ≡ own_refusal limits.now v own (entry.Hand safe) }

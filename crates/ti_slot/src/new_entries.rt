@@ -25,6 +25,7 @@ pub fn push(history: &mut Record<Entry>, entry: Entry)
 }
 
 /// Adds the thread's own steps. There is room for them. They are kept if the history is.
+#[inline(always)]
 pub fn push_steps(history: &mut Record<Entry>, steps: &Record<Step>)
     requires room { length history.old.items + length steps.now.items ≤ history.old.room }
     requires kept { steps.now.kept ≡ history.old.kept }

@@ -179,6 +179,7 @@ impl Slot {
     }
 
     /// How many calls of an environment wait, or have an answer that is not collected. 0 if there is no such environment.
+    #[inline(always)]
     pub fn out(&self, env: EnvNo) -> u32
         ensures { result ≡ held_by env self.now.uncollected }
     {
@@ -292,6 +293,7 @@ impl Slot {
     }
 
     /// What the thread may still spend of its own budget: a step costs 1, a hand-over to native or blocked 2.
+    #[inline(always)]
     pub fn own_left(&self) -> u64
         ensures left { result + own_spent self.now.history ≡ self.now.limits.own }
     {
@@ -328,6 +330,7 @@ impl Slot {
     }
 
     /// Whether the thread has to hand over at its next poll: a waiting call is unanswered, or a stop is in force.
+    #[inline(always)]
     pub fn armed(&self) -> bool
         ensures { result ≡ is_armed self.now.limits self.now.history }
     {
@@ -335,6 +338,7 @@ impl Slot {
     }
 
     /// Whether the thread may not start or return: it is suspended, or a stop is in force.
+    #[inline(always)]
     pub fn barred(&self) -> bool
         ensures { result ≡ is_barred (view self.now.limits self.now.history) }
     {
@@ -366,6 +370,7 @@ impl Slot {
     }
 
     /// How many entries the history has.
+    #[inline(always)]
     pub fn len(&self) -> usize
         ensures len { result ≡ length self.now.history }
         ensures legal { is_legal self.now.limits self.now.history ≡ true }

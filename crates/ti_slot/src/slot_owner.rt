@@ -48,6 +48,7 @@ impl Slot {
     ///
     /// - `NotSafe` (205): it is not in native code, blocked or at a poll.
     /// - `Barred` (206): it is suspended, or a stop is in force.
+    #[inline(always)]
     pub fn back(&mut self) -> Result<Frames, TiError>
         ensures when { MatchResult result
             (λ _. own_refusal self.old.limits (view self.old.limits self.old.history) (own_spent self.old.history) entry.Back ≡ None)
@@ -79,6 +80,7 @@ impl Slot {
     ///
     /// - `NoNativeFrame` (207): to native, and the newest frame is not native, or there is none.
     /// - `OwnSpent` (208): to native or blocked, and less than 2 is left to spend.
+    #[inline(always)]
     pub fn hand_over(
         &mut self,
         frames: Frames,

@@ -64,6 +64,7 @@ impl HostThread {
     }
 
     /// This thread, with these pops.
+    #[inline(always)]
     pub fn of(thread: AnyThread, pops: Pops) -> HostThread
         ensures { result ≡ host_of thread pops }
     {
@@ -99,6 +100,7 @@ impl HostThread {
     /// Does what `turn` says. The frames that the thread handed over and did not get back are counted as popped.
     ///
     /// Refused as the thread's own call is (`AnyThread`). Then nothing is counted.
+    #[inline(always)]
     pub fn take_turn(self, turn: Turn) -> (HostThread, TurnOutcome)
         ensures { TakesTurn turn self result.0 result.1 }
     {
@@ -109,6 +111,7 @@ impl HostThread {
 
     /// The thread alone, for a turn that somebody else makes: a service that notes its threads' starts and ends. What comes of it goes
     /// back by `after_turn`, with these pops.
+    #[inline(always)]
     pub fn for_turn(self) -> (AnyThread, Pops)
         ensures thread { result.0 ≡ self.thread }
         ensures pops { result.1 ≡ pops_before self }
@@ -126,6 +129,7 @@ impl HostThread {
 
     /// What came of a turn that somebody else made, with the pops that `for_turn` gave. The frames that the thread handed over and did
     /// not get back are counted as popped.
+    #[inline(always)]
     pub fn after_turn(thread: AnyThread, before: Pops) -> HostThread
         ensures { result ≡ host_of thread (pops_after before thread) }
     {

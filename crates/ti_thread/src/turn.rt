@@ -17,6 +17,7 @@ pub enum Turn {
 
 impl AnyThread {
     /// Does what `turn` says.
+    #[inline(always)]
     pub(crate) fn take_turn(self, turn: Turn) -> (AnyThread, TurnOutcome)
         ensures { Takes turn self result.0 result.1 }
     {
@@ -31,6 +32,7 @@ impl AnyThread {
     }
 
     /// How many frames the thread has, or `otherwise` if it does not run.
+    #[inline(always)]
     pub(crate) fn frames_or(&self, otherwise: usize) -> usize
         ensures { result ≡ count_or self.now otherwise }
     {

@@ -38,6 +38,7 @@ impl AnyThread {
     ///
     /// - `NotRunning` (204): the thread does not run.
     /// - `Busy` (215): its cell is in use.
+    #[inline(always)]
     pub fn poll(self) -> (AnyThread, TurnOutcome)
         ensures { Polls self result.0 result.1 }
     {
@@ -59,6 +60,7 @@ impl AnyThread {
     /// - `Busy` (215): its cell is in use.
     /// - `NoNativeFrame` (207): the newest frame is not native, or there is none.
     /// - `OwnSpent` (208): less than 2 is left to spend.
+    #[inline(always)]
     pub fn native(self) -> (AnyThread, TurnOutcome)
         ensures { HandsOver IntoNative self result.0 result.1 }
     {
@@ -91,6 +93,7 @@ impl AnyThread {
     /// - `NotSafe` (205): the thread is not safe.
     /// - `Busy` (215): its cell is in use.
     /// - `Barred` (206): it is suspended, or a stop is in force.
+    #[inline(always)]
     pub fn back(self) -> (AnyThread, TurnOutcome)
         ensures { Returns self result.0 result.1 }
     {
@@ -120,6 +123,7 @@ impl AnyThread {
 }
 
 /// The thread as it is, and why the call is refused.
+#[inline(always)]
 fn refused(thread: AnyThread, error: TiError) -> (AnyThread, TurnOutcome)
     ensures { IsUnfit error thread result.0 result.1 }
 {

@@ -127,19 +127,23 @@ impl<T: Drop> Record<T> {
 
     /// Adds all items of another record at the end, each as `M` reads it. There has to be room for them. The items are kept
     /// only if both records keep theirs.
+    #[inline(always)]
     pub fn append<S, M: Reads<S, T>>(&mut self, more: &Record<S>)
         requires { length self.old.items + length more.now.items ≤ self.old.room }
         ensures { self.new ≡ joined self.old more.now.kept (self.old.items ++ map M.read more.now.items) }
     {
         self.ghost_list = self.ghost_list.and_all::<S, M>(&more.ghost_list);
         self.len += more.len;
-        match (&mut self.kept, &more.kept) {
-            (Some(items), Some(more)) => extend::<S, T, M>(items, more.as_slice()),
-            _ => self.kept = None,
+        if let Some(items) = &mut self.kept {
+            match &more.kept {
+                Some(more) => extend::<S, T, M>(items, more.as_slice()),
+                None => self.kept = None,
+            }
         }
     }
 
     /// Takes all items away. The room stays.
+    #[inline(always)]
     pub fn clear(&mut self)
         ensures { self.new ≡ with_items self.old [] }
     {
