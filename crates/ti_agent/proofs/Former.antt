@@ -1,12 +1,13 @@
 -- Calls of an environment of the same number that has left: their answers are dropped before an own answer is told.
-use Rattle.std.proofs.Common.{◌≡◌, suc, ◌<◌, ◌≤◌, Bool, false, inl, inr, length, refl, sym, subst, Option, Some, None, Result, Ok, Err}
+use Rattle.std.proofs.Common.{◌≡◌, suc, ◌<◌, ◌≤◌, Bool, false, inl, inr, length, refl, sym, ap, subst, arith, Option, Some, None, Result, Ok, Err}
 use Rattle.std.specs.Prelude.{is_some, IfOk, IfSome}
 use Rattle.std.proofs.lemmas.Bool.{cases_lt}
+use Rattle.std.proofs.lemmas.Option.{slice_get_past}
 use Rattle.ti_types.specs.Answer.{said}
 use Rattle.ti_types.specs.declared.error.TiError.{TiError}
 use Rattle.ti_types.specs.declared.numbers.ThreadNo.{ThreadNo}
 use Rattle.ti_handshake.specs.declared.discarded.Discarded.{Discarded}
-use Rattle.ti_agent.specs.Deadlines.{DiscardsAt, DiscardsOwn, DropsAt, Looked, TellsDiscardedAt, TellsOwn, former_at}
+use Rattle.ti_agent.specs.Deadlines.{DiscardsAt, DiscardsOwn, DropsAt, Looked, TellsDiscardedAt, TellsOwn, former_at, former_of}
 use Rattle.ti_agent.specs.Env.{Environment, place_in}
 
 -- one more was looked for, while a former environment's call was out
@@ -16,6 +17,10 @@ drops_more a b c t was_there before former there nobody =
       | inl here ↦ (suc before.0, (b, before.1, former, (was_there, there here)))
       | inr past ↦ subst (λ (x : Environment). DropsAt a x t) (sym (nobody past)) before
     ]
+
+-- with no desk there nothing was discarded
+pub nobody_there : (a : Environment) (t : ThreadNo) → length a.desks ≤ place_in a.desks t → DiscardsOwn a a t false
+nobody_there a t past = Looked a (0, refl) (ap former_of (slice_get_past a.desks (place_in a.desks t) past)) (λ here. absurd (omega (arith, here, past))) (λ _. (refl, refl))
 
 -- once none is out, an own answer is looked for
 pub looks_own : (a b c : Environment) (t : ThreadNo) (r : Result (Option Discarded) TiError) → DropsAt a b t → former_at b t ≡ 0 → IfOk r (λ d. place_in b.desks t < length b.desks → DiscardsAt b c t (is_some d))

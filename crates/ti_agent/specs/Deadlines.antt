@@ -61,10 +61,10 @@ abbrev pub DropsAt : Environment → Environment → ThreadNo → Type 0
 DropsAt old new thread = (n : ℕ) × LooksTimes (λ s. 0 < former_at s thread) n old new thread
 
 -- Answers to calls of an environment that has left were discarded. If none of these is out any more, the answer to the first call that
--- this environment cancelled was looked for. Otherwise nothing is told, and the first has no answer
+-- this environment cancelled was looked for. Otherwise one is still out, nothing is told, and the first has no answer
 pub data DiscardsOwn (old new : Environment) (thread : ThreadNo) (told : Bool) : Type 0 where
   Looked : (mid : Environment) → DropsAt old mid thread → former_at mid thread ≡ 0 → (place_in mid.desks thread < length mid.desks → DiscardsAt mid new thread told) → (length mid.desks ≤ place_in mid.desks thread → (new ≡ mid) × (told ≡ false)) → DiscardsOwn old new thread told
-  Waits : DropsAt old new thread → FirstWaitsAt new thread → told ≡ false → DiscardsOwn old new thread told
+  Waits : DropsAt old new thread → 0 < former_at new thread → FirstWaitsAt new thread → told ≡ false → DiscardsOwn old new thread told
 
 -- what is told of an answer that the desk at a thread discarded
 pub record TellsDiscardedAt (old new : Environment) (thread : ThreadNo) (ticket : Ticket) (answer : Answer) : Type 0 where

@@ -16,6 +16,7 @@
 mod answers;
 mod deadlines;
 mod desks;
+mod discarding;
 mod ensure_resumed;
 mod env;
 mod free_desk;
