@@ -1,6 +1,6 @@
 //! A hold: the roster is out of its cell, and with the one who holds.
 
-use crate::roster::Roster;
+use crate::parked::ParkedRoster;
 use crate::roster_cell::RosterCell;
 use crate::seat::{Pass, RosterSeat};
 use std::marker::Model;
@@ -11,7 +11,7 @@ use std::marker::Model;
 pub struct RosterHold<'a> {
     pub(crate) cell: &'a RosterCell,
     pub(crate) seat: Pass,
-    pub(crate) roster: Roster,
+    pub(crate) roster: ParkedRoster,
 }
 
 impl<'a> Model for RosterHold<'a> {
@@ -59,8 +59,8 @@ impl<'a> RosterHold<'a> {
             mut seat,
             roster,
         } = self;
-        let (count, place, limits) = (roster.len(), roster.user(), roster.limits());
-        let watched = roster.is_watched();
+        let (count, place) = (roster.len(), roster.roster.user());
+        let (limits, watched) = (roster.roster.limits(), roster.roster.is_watched());
         cell.give(&mut seat, roster);
         RosterSeat {
             seat,

@@ -9,7 +9,7 @@ impl<'a> RosterHold<'a> {
         ensures* writes_back { sem 𝓛 (follows (the_row (record { mir = named 1; lft = [] })) roster_contracts.the_row self.entry.ghost_name result.ghost_name (with_roster self.old)) }
         ensures value { result.now ≡ self.old.roster }
     {
-        &mut self.roster
+        self.roster.roster.as_mut()
     }
 }
 

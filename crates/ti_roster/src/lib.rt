@@ -28,6 +28,7 @@ mod life;
 mod life_event;
 mod life_modes;
 mod newcomer;
+mod parked;
 mod roster;
 mod roster_cell;
 mod row;

@@ -1,7 +1,7 @@
 //! The roster's cell: how it is made, held and looked at, and how seats are made.
 
 use crate::hold::RosterHold;
-use crate::roster::Roster;
+use crate::parked::ParkedRoster;
 use crate::seat::{Pass, RosterSeat};
 use crate::view::{Frees, Glances, Locks, RosterRule, RosterView, Splits};
 use crate::word::Word;
@@ -19,7 +19,7 @@ use ti_types::{Limits, TiError};
 /// Contracts see it as the name of its table, which each of its seats has too: a seat is used with its own cell.
 #[derive(Drop)]
 pub struct RosterCell {
-    table: Table<Option<Roster>, RosterView, Limits, RosterRule, Global>,
+    table: Table<Option<ParkedRoster>, RosterView, Limits, RosterRule, Global>,
     /// How many sleep on the word, or are about to. It is no part of what contracts see.
     sleepers: AtomicU64,
 }
@@ -44,7 +44,7 @@ impl RosterCell {
         ensures seat { IfOk result (λ m. (m.1.cell ≡ m.0) × (m.1.view ≡ first_view limits)) }
         ensures memory { IfErr result (λ e. e ≡ OutOfMemory) }
     {
-        let roster = Roster::new(alloc, limits)?;
+        let roster = ParkedRoster::new(alloc, limits)?;
         let mut slots = Vec::with_capacity(alloc, 1)?;
         match slots.push(Some(roster)) {
             Ok(()) => (),
@@ -107,7 +107,7 @@ impl RosterCell {
             watched: _,
         } = seat;
         let mut roster = self.take(rt, &mut seat);
-        roster.serve(place);
+        roster.roster.as_mut().serve(place);
         RosterHold {
             cell: self,
             seat,
@@ -135,7 +135,7 @@ impl RosterCell {
         } = seat;
         match self.take_now(&mut seat) {
             Some(mut roster) => {
-                roster.serve(place);
+                roster.roster.as_mut().serve(place);
                 Ok(RosterHold {
                     cell: self,
                     seat,
@@ -153,7 +153,7 @@ impl RosterCell {
     }
 
     /// Takes the lock bit and the roster, once nobody has them.
-    fn take<R: Wait>(&self, rt: &R, seat: &mut Pass) -> Roster
+    fn take<R: Wait>(&self, rt: &R, seat: &mut Pass) -> ParkedRoster
         requires { (seat.old.table_id ≡ self.now) × (seat.old.me.1 ≡ []) }
         ensures seat { (seat.new.table_id ≡ seat.old.table_id) × (seat.new.me ≡ (holding seat.old.me.0 result.items, (0, None) ∷ [])) }
         ensures found { IsFound result seat.old.me.0 }
@@ -178,7 +178,7 @@ impl RosterCell {
 
     /// Takes the lock bit and the roster by one load and one exchange of the word, unless another has them.
     #[inline]
-    fn take_now(&self, seat: &mut Pass) -> Option<Roster>
+    fn take_now(&self, seat: &mut Pass) -> Option<ParkedRoster>
         requires { (seat.old.table_id ≡ self.now) × (seat.old.me.1 ≡ []) }
         ensures table { seat.new.table_id ≡ seat.old.table_id }
         ensures seat { IfSome result (λ r. seat.new.me ≡ (holding seat.old.me.0 r.items, (0, None) ∷ [])) }
@@ -240,7 +240,7 @@ impl RosterCell {
     }
 
     /// Puts the roster back, and clears the lock bit. It wakes nobody.
-    pub(crate) fn give(&self, seat: &mut Pass, roster: Roster)
+    pub(crate) fn give(&self, seat: &mut Pass, roster: ParkedRoster)
         requires seat { (seat.old.table_id ≡ self.now) × (seat.old.me.1 ≡ (0, None) ∷ []) × (seat.old.me.0.holds ≡ true) }
         requires may { MayStore roster seat.old.me.0 }
         ensures seat { (seat.new.table_id ≡ seat.old.table_id) × (seat.new.me ≡ (stored seat.old.me.0 roster, [])) }

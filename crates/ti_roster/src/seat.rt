@@ -1,13 +1,13 @@
 //! The seats at a roster's cell.
 
-use crate::roster::Roster;
+use crate::parked::ParkedRoster;
 use crate::view::RosterView;
 use atomic_table::Seat;
 use std::marker::Model;
 use ti_types::{EnvNo, Limits};
 
 /// A seat of the cell's table.
-pub(crate) type Pass = Seat<Option<Roster>, RosterView>;
+pub(crate) type Pass = Seat<Option<ParkedRoster>, RosterView>;
 
 /// A user's right to hold the cell, with what this user has seen. Contracts see it as its cell and a `RosterView`.
 #[derive(Drop)]

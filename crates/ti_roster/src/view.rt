@@ -1,6 +1,6 @@
 //! What a seat knows, the rule over all seats, and what each step tells.
 use crate::coming::Coming;
-use crate::roster::Roster;
+use crate::parked::ParkedRoster;
 use atomic_table::{Play, Split, TableRule};
 use std::collections::LinkedList;
 use ti_types::{EnvNo, Limits};
@@ -28,7 +28,7 @@ pub struct RosterView {
 /// The rule of a cell: `RosterInvariant` in `specs/Rule`.
 pub struct RosterRule;
 
-impl TableRule<Option<Roster>, RosterView, Limits> for RosterRule {
+impl TableRule<Option<ParkedRoster>, RosterView, Limits> for RosterRule {
     ghost use Rattle.ti_roster.specs.Rule.{RosterInvariant};
     ghost use Rattle.ti_roster.specs.View.{first_view};
 
@@ -40,7 +40,7 @@ impl TableRule<Option<Roster>, RosterView, Limits> for RosterRule {
 /// The lock bit is set, and the roster comes out.
 pub struct Locks;
 
-impl Play<Option<Roster>, RosterView> for Locks {
+impl Play<Option<ParkedRoster>, RosterView> for Locks {
     ghost use Rattle.ti_roster.specs.Rule.{locks};
 
     ghost then = { locks };
@@ -49,7 +49,7 @@ impl Play<Option<Roster>, RosterView> for Locks {
 /// The roster is in, and the lock bit is cleared.
 pub struct Frees;
 
-impl Play<Option<Roster>, RosterView> for Frees {
+impl Play<Option<ParkedRoster>, RosterView> for Frees {
     ghost use Rattle.ti_roster.specs.Rule.{frees};
 
     ghost then = { frees };
@@ -58,7 +58,7 @@ impl Play<Option<Roster>, RosterView> for Frees {
 /// The word is loaded.
 pub struct Glances;
 
-impl Play<Option<Roster>, RosterView> for Glances {
+impl Play<Option<ParkedRoster>, RosterView> for Glances {
     ghost use Rattle.ti_roster.specs.Rule.{glances};
 
     ghost then = { glances };

@@ -1,6 +1,6 @@
 -- Threads of a service that start and end.
-use Rattle.std.proofs.Common.{◌≡◌, ◌⊎◌, inl, inr, ℕ, suc, [], ◌∷◌, ◌++◌, length, refl, sym, ap, ◌∙◌, subst, Result, Ok, Err}
-use Rattle.std.specs.Prelude.{IfOk, ◌+◌, false}
+use Rattle.std.proofs.Common.{◌≡◌, ◌⊎◌, inl, inr, ℕ, suc, List, [], ◌∷◌, ◌++◌, length, refl, sym, ap, ◌∙◌, subst, Result, Ok, Err}
+use Rattle.std.specs.Prelude.{IfOk, OnOk, ◌+◌, true, false}
 use Rattle.ti_types.specs.declared.error.TiError.{TiError}
 use Rattle.ti_types.specs.declared.error.TiError.TheVariants.{Barred, Busy}
 use Rattle.ti_types.specs.declared.numbers.ThreadNo.{ThreadNo}
@@ -11,21 +11,21 @@ use Rattle.ti_handshake.specs.Thread.{Runner}
 use Rattle.ti_roster.specs.declared.coming.Coming.{Coming}
 use Rattle.ti_roster.specs.declared.coming.Coming.TheVariants.{Started, Ended}
 use Rattle.ti_roster.specs.declared.view.RosterView.{RosterView}
-use Rattle.ti_roster.specs.Log.{Log, with_item}
+use Rattle.ti_roster.specs.Log.{Log, is_live, with_items}
 use Rattle.ti_roster.specs.Roster.{IsListed}
 use Rattle.ti_roster.specs.Rule.{Begins, Claims}
-use Rattle.ti_roster.specs.Starting.{HasEnded, HasStarted, InUse, IsBarred, NotHere, RefusesStart, number_of}
+use Rattle.ti_roster.specs.Starting.{HasEnded, HasStarted, InUse, IsBarred, NotHere, RefusesStart, leaving, number_of}
 use Rattle.ti_roster.specs.View.{AreWithin, holding, stored}
 use Rattle.ti_service.specs.Service.{Holds, Looks, Member, roster_of}
-use Rattle.ti_service.specs.Starting.{DoesNotEnd, DoesNotStart, EndsThread, LooksTimes, StartsThread, StaysTimes}
+use Rattle.ti_service.specs.Starting.{Detaches, DoesNotEnd, DoesNotStart, EndsThread, LooksTimes, StartsThread, StaysTimes}
 
--- one hold, in which one thing was noted
-held_one : (v h n : RosterView) (r r' : Log) (x : Coming) → r.user ≡ v.place → Begins r.items v.seen → Claims r.items v.place v.seen → AreWithin (length r.items) v.looked → h ≡ holding v r.items → n ≡ stored h r' → r' ≡ with_item r x → Holds v n r.items (x ∷ [])
-held_one v h n r r' x placed b c l held put is = record {
+-- one hold, in which these were noted
+held_items : (v h n : RosterView) (r r' : Log) (more : List Coming) → r.user ≡ v.place → Begins r.items v.seen → Claims r.items v.place v.seen → AreWithin (length r.items) v.looked → h ≡ holding v r.items → n ≡ stored h r' → r' ≡ with_items r more → Holds v n r.items more
+held_items v h n r r' more placed b c l held put is = record {
   begins = b;
   claims = c;
   looked = l;
-  new_is = put ∙ ((λ j. stored (held j) (is j)) ∙ ap (λ p. record { limits = v.limits; seen = r.items ++ x ∷ []; found = r.items; looked = v.looked; taken = v.taken + 1; made = v.made; holds = false; place = p }) placed);
+  new_is = put ∙ ((λ j. stored (held j) (is j)) ∙ ap (λ p. record { limits = v.limits; seen = r.items ++ more; found = r.items; looked = v.looked; taken = v.taken + 1; made = v.made; holds = false; place = p }) placed);
 }
 
 listed_in : (r : Log) (v : RosterView) (t : ThreadNo) → IsListed r t → IsListed (roster_of v r.items) t
@@ -35,7 +35,7 @@ pub starts_by : {E : Type 0} (v h n : RosterView) (r r' : Log) (f : Sitting) (re
     → IfOk res (λ x. HasStarted r r' f x) → IfOk res (λ x. StartsThread v n f x)
 starts_by v h n r r' f (Ok x) placed b c l held put s = record {
   found = r.items;
-  hold = held_one v h n r r' (Started (number_of f)) placed b c l held put s.new_is;
+  hold = held_items v h n r r' (Started (number_of f) ∷ []) placed b c l held put s.new_is;
   started = record { there = listed_in r v (number_of f) s.there; was_new = s.was_new; starts = s.starts; new_is = refl };
 }
 starts_by v h n r r' f (Err e) placed b c l held put s = s
@@ -44,10 +44,20 @@ pub ends_by : {E : Type 0} (v h n : RosterView) (r r' : Log) (f : Runner) (res :
     → IfOk res (λ x. HasEnded r r' f x) → IfOk res (λ x. EndsThread v n f x)
 ends_by v h n r r' f (Ok x) placed b c l held put s = record {
   found = r.items;
-  hold = held_one v h n r r' (Ended f.view.subject.thread) placed b c l held put s.new_is;
+  hold = held_items v h n r r' (Ended f.view.subject.thread ∷ []) placed b c l held put s.new_is;
   ended = record { there = listed_in r v f.view.subject.thread s.there; was_alive = s.was_alive; cell = s.cell; hold = s.hold; new_is = refl };
 }
 ends_by v h n r r' f (Err e) placed b c l held put s = s
+
+pub detaches_by : {V E : Type 0} (v h n : RosterView) (r r' : Log) (t : ThreadNo) (res : Result V E) → r.user ≡ v.place → Begins r.items v.seen → Claims r.items v.place v.seen → AreWithin (length r.items) v.looked → h ≡ holding v r.items → n ≡ stored h r'
+    → OnOk res (is_live t r.items ≡ true) → OnOk res (IsListed r t) → OnOk res (r' ≡ with_items r (leaving t r.items)) → OnOk res (Detaches v n t)
+detaches_by v h n r r' t (Ok x) placed b c l held put there who left = record {
+  found = r.items;
+  hold = held_items v h n r r' (leaving t r.items) placed b c l held put left;
+  there = there;
+  listed = listed_in r v t who;
+}
+detaches_by v h n r r' t (Err e) placed b c l held put there who left = tt
 
 -- Loops: holds that added nothing
 
