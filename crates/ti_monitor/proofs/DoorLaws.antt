@@ -39,7 +39,7 @@ one_open None = refl
 one_open (Some s) = refl
 
 -- as many are open
-open_count : (seats : List (Option Seat)) → count_by is_some (map talk_of seats) ≡ count_by is_some seats
+pub open_count : (seats : List (Option Seat)) → count_by is_some (map talk_of seats) ≡ count_by is_some seats
 open_count [] = refl
 open_count (o ∷ seats) =
     sum_by-cons (λ (x : Option Talk). if is_some x then 1 else 0) (talk_of o) (map talk_of seats)

@@ -1,17 +1,19 @@
 -- A connection that is opened.
-use Rattle.std.proofs.Common.{◌≡◌, ℕ, ◌<◌, ◌≤◌, true, false, List, [], ◌∷◌, ◌++◌, length, map, Option, Some, None, refl, sym, ap, subst, ◌∙◌, arith}
-use Rattle.std.specs.Prelude.{IfSome, nat_lt, slice_set, if◌then◌else◌}
+use Rattle.std.proofs.Common.{◌≡◌, ℕ, ◌<◌, ◌≤◌, true, false, List, [], ◌∷◌, ◌++◌, length, map, Option, Some, None, Result, Ok, Err, refl, sym, ap, subst, ◌∙◌, arith}
+use Rattle.std.specs.Prelude.{IfErr, IfOk, OnErr, count_by, is_some, nat_lt, slice_set, if◌then◌else◌}
 use Rattle.std.proofs.lemmas.Bool.Decides.{nat_tests}
 use Rattle.std.proofs.lemmas.List.{length-map, map-append}
 use Rattle.ti_http.specs.declared.hosts.Hosts.{Hosts}
 use Rattle.ti_http.specs.Talks.{Talk, opened}
 use Rattle.ti_monitor.specs.declared.door_desk.Desk.{Desk}
 use Rattle.ti_monitor.specs.declared.door_seat.Seat.{Seat}
+use Rattle.ti_monitor.specs.declared.door_error.DoorError.{DoorError}
+use Rattle.ti_monitor.specs.declared.door_error.DoorError.TheVariants.{OutOfMemory}
 use Rattle.ti_monitor.specs.declared.door_seats.ConnNo.{ConnNo}
-use Rattle.ti_monitor.specs.Doors.{DoorValue, Opens, with_new}
+use Rattle.ti_monitor.specs.Doors.{DoorValue, Opens, OpensNone, with_new}
 use Rattle.ti_monitor.specs.declared.door_desk.Due.{Due}
 use Rattle.ti_monitor.specs.SeatLists.{door_of, due_of, seat_at, talk_of}
-use Rattle.ti_monitor.proofs.DoorLaws.{dues_set, map_set, talk_at_of, with_list}
+use Rattle.ti_monitor.proofs.DoorLaws.{dues_set, map_set, open_count, talk_at_of, with_list}
 
 lt_true : (a b : ℕ) → a < b → nat_lt a b ≡ true
 lt_true a b h = grind (arith, nat_tests)
@@ -59,11 +61,11 @@ pub opens_at : (hosts : Hosts) (desk : Desk) (old new : List (Option Seat)) (d :
 opens_at hosts desk old new d place now s door within few free is none put =
     subst (λ (x : DoorValue). Opens x (door_of hosts new desk) place now) door (opens_here hosts desk old new place now s within few free is none put)
 
-opens_end : (hosts : Hosts) (desk : Desk) (r : Option ConnNo) (old new : List (Option Seat)) (now : ℕ) (s : Seat)
-    → IfSome r (λ c. (c.0 ≡ length old) × (c.0 < 16) × (new ≡ old ++ Some s ∷ [])) → s.connection ≡ opened hosts now → s.due ≡ None
-    → IfSome r (λ c. Opens (door_of hosts old desk) (door_of hosts new desk) c.0 now)
-opens_end hosts desk None old new now s h is none = tt
-opens_end hosts desk (Some c) old new now s h is none =
+opens_end : {E : Type 0} (hosts : Hosts) (desk : Desk) (r : Result ConnNo E) (old new : List (Option Seat)) (now : ℕ) (s : Seat)
+    → IfOk r (λ c. (c.0 ≡ length old) × (c.0 < 16) × (new ≡ old ++ Some s ∷ [])) → s.connection ≡ opened hosts now → s.due ≡ None
+    → IfOk r (λ c. Opens (door_of hosts old desk) (door_of hosts new desk) c.0 now)
+opens_end hosts desk (Err e) old new now s h is none = tt
+opens_end hosts desk (Ok c) old new now s h is none =
     let t = opened hosts now in
     let talks = map talk_of old in (
       h.1,
@@ -78,7 +80,19 @@ opens_end hosts desk (Some c) old new now s h is none =
           ),
     )
 
-pub opens_add : (hosts : Hosts) (desk : Desk) (r : Option ConnNo) (old new : List (Option Seat)) (d : DoorValue) (now : ℕ) (s : Seat) → door_of hosts old desk ≡ d
-    → IfSome r (λ c. (c.0 ≡ length old) × (c.0 < 16) × (new ≡ old ++ Some s ∷ [])) → s.connection ≡ opened hosts now → s.due ≡ None
-    → IfSome r (λ c. Opens d (door_of hosts new desk) c.0 now)
-opens_add hosts desk r old new d now s door h is none = subst (λ (x : DoorValue). IfSome r (λ c. Opens x (door_of hosts new desk) c.0 now)) door (opens_end hosts desk r old new now s h is none)
+pub opens_add : {E : Type 0} (hosts : Hosts) (desk : Desk) (r : Result ConnNo E) (old new : List (Option Seat)) (d : DoorValue) (now : ℕ) (s : Seat) → door_of hosts old desk ≡ d
+    → IfOk r (λ c. (c.0 ≡ length old) × (c.0 < 16) × (new ≡ old ++ Some s ∷ [])) → s.connection ≡ opened hosts now → s.due ≡ None
+    → IfOk r (λ c. Opens d (door_of hosts new desk) c.0 now)
+opens_add hosts desk r old new d now s door h is none = subst (λ (x : DoorValue). IfOk r (λ c. Opens x (door_of hosts new desk) c.0 now)) door (opens_end hosts desk r old new now s h is none)
+
+-- with no number free, as many are open as have a place
+pub all_open : (hosts : Hosts) (desk : Desk) (old : List (Option Seat)) (d : DoorValue) → door_of hosts old desk ≡ d → count_by is_some old ≡ length old
+    → count_by is_some d.talks ≡ length old
+all_open hosts desk old d door all = subst (λ (x : DoorValue). count_by is_some x.talks ≡ length old) door (open_count old ∙ all)
+
+-- without memory for one more, nothing changed
+pub none_added : (hosts : Hosts) (desk : Desk) (r : Result ConnNo DoorError) (old new : List (Option Seat)) (d : DoorValue) → door_of hosts old desk ≡ d → count_by is_some old ≡ length old
+    → length old < 16 → IfErr r (λ e. e ≡ OutOfMemory) → OnErr r (new ≡ old) → IfErr r (OpensNone d (door_of hosts new desk))
+none_added hosts desk (Ok c) old new d door all few is same = tt
+none_added hosts desk (Err e) old new d door all few is same =
+    subst (OpensNone d (door_of hosts new desk)) (sym is) (subst (λ (n : ℕ). n < 16) (sym (all_open hosts desk old d door all)) few, ap (λ xs. door_of hosts xs desk) same ∙ door)

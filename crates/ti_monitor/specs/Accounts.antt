@@ -73,6 +73,10 @@ OwesMore place n a b = (owed_at b place ≡ owed_at a place + n) × ((other : �
 abbrev pub IsExhausted : ℕ → Account → Type 0
 IsExhausted place b = (length b.owed.items ≤ place) ⊎ (b.thread_ticks ≡ 2 ^ 62)
 
+-- there is room for so many frames, and for as many samples
+abbrev pub HasRoom : ℕ → Account → Type 0
+HasRoom room a = (a.counts.trie.most ≡ room) × (a.counts.table.most ≡ room)
+
 -- nothing was counted, and nothing is owed
 pub record IsEmpty (a : Account) : Type 0 where
   pub samples : samples_of a.counts.trie a.counts.table ≡ []

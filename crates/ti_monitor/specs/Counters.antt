@@ -26,6 +26,7 @@ pub record KeepsOthers (old new : Metrics) : Type 0 where
   pub at_once : new.at_once ≡ old.at_once
   pub late : new.late ≡ old.late
   pub unanswered : new.unanswered ≡ old.unanswered
+  pub no_room : new.no_room ≡ old.no_room
 
 -- the same with so many calls that are out
 abbrev pub with_calls : Metrics → ℕ → Metrics
@@ -46,4 +47,5 @@ with_calls m n = record {
   at_once = m.at_once;
   late = m.late;
   unanswered = m.unanswered;
+  no_room = m.no_room;
 }

@@ -18,10 +18,11 @@ use Rattle.ti_monitor.specs.Json.{threads_data}
 use Rattle.ti_monitor.specs.Texts.{text_of}
 use Rattle.ti_monitor.specs.Threads.{groups_lines, threads_lines}
 
--- JVM TI's numbers
+-- JVM TI's numbers, and one of this service
 abbrev pub number_of : DoorError → ℕ
 number_of error.NoConnection = 103
 number_of error.OutOfMemory = 110
+number_of error.Full = 216
 
 -- ---- answers
 

@@ -143,3 +143,9 @@ TalksRun (a ∷ old) (b ∷ new) = OneRuns a b × TalksRun old new
 -- `ServesOne` and `IsTicked` say
 abbrev pub AllRun : DoorValue → DoorValue → Type 0
 AllRun old new = (new ≡ record old { talks = new.talks; agent = new.agent; dues = new.dues; kept = new.kept }) × TalksRun old.talks new.talks
+
+-- Why no connection opened. As many are open as may be, and they went on by calls; or fewer are, and nothing changed
+abbrev pub OpensNone : DoorValue → DoorValue → DoorError → Type 0
+OpensNone old new error.Full = (count_by is_some old.talks ≡ 16) × TalksRun old.talks new.talks × (new ≡ record old { talks = new.talks })
+OpensNone old new error.OutOfMemory = (count_by is_some old.talks < 16) × (new ≡ old)
+OpensNone old new error.NoConnection = ⊥

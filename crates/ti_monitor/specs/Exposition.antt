@@ -129,7 +129,8 @@ profile_lines m =
     single (codes "calls_out") gauge (codes "Calls that were posted and not collected.") (decimal m.calls_out)
     ++ (single (codes "profiles_total") counter (codes "Profiles that were begun.") (decimal m.profiles)
     ++ (single (codes "profile_ticks_total") counter (codes "Ticks of all profiles.") (decimal m.ticks)
-    ++ single (codes "profile_ticks_missed_total") counter (codes "Ticks that came too late to be taken.") (decimal m.missed)))
+    ++ (single (codes "profile_ticks_missed_total") counter (codes "Ticks that came too late to be taken.") (decimal m.missed)
+    ++ single (codes "profile_samples_no_room_total") counter (codes "Samples for which a profile had no room.") (decimal m.no_room))))
 
 abbrev pub outcomes : Labelled
 outcomes = labelled (codes "profile_samples_total") [] (codes "outcome") unit.Count

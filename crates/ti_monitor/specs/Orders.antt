@@ -22,6 +22,11 @@ clamped_seconds seconds = min (max seconds 1) 300
 abbrev pub clamped_rate : ℕ → ℕ
 clamped_rate rate = min (max rate 1) 1000
 
+-- for how many frames and samples a reading has room
+abbrev pub room_of : Order → ℕ
+room_of Once = 65536
+room_of (Over seconds rate labels) = 262144
+
 -- the nanoseconds from one tick to the next
 abbrev pub period_of : Order → ℕ
 period_of Once = 1

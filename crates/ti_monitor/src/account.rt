@@ -11,9 +11,6 @@ use ti_pprof::{Counts, Frame};
 /// How many ticks at threads there are at most, 2^62.
 const MOST: u64 = 1 << 62;
 
-/// How many frames and samples there is room for.
-const ROOM: u32 = 65_536;
-
 /// The stacks of a reading that were counted, and those that are owed. Each tick at a thread owes one, which is counted when
 /// the thread has answered, or when it is known that it won't. So the stacks that were counted and those that are owed are as many as the ticks at threads.
 #[derive(Drop)]
@@ -35,15 +32,17 @@ pub(crate) struct Account {
 impl Account {
     ghost use Rattle.std.specs.Prelude.{◌⊎◌, ◌∷◌, ◌<◌, OnOk, OnErr, IfOk, IfErr, drop, length};
     ghost use Rattle.std.specs.Bool.{OnTrue, OnFalse};
-    ghost use Rattle.ti_monitor.specs.Accounts.{Answers, IsEmpty, IsExhausted, IsSame, IsUncounted, Loses, LosesUpTo, OwesAsBefore, TicksAt, Widens, owed_at};
+    ghost use Rattle.ti_monitor.specs.Accounts.{Answers, HasRoom, IsEmpty, IsExhausted, IsSame, IsUncounted, Loses, LosesUpTo, OwesAsBefore, TicksAt, Widens, owed_at};
     ghost use Rattle.ti_monitor.specs.Counting.{frame};
     ghost use Rattle.ti_monitor.specs.Watching.{label_at};
 
-    /// Nothing yet, and no places. All memory for counts is taken here. The error is lack of memory.
-    pub(crate) fn new(alloc: Global) -> Result<Account, AllocError>
-        ensures { IfOk result (λ a. IsEmpty a) }
+    /// Nothing yet, and no places. All memory for counts is taken here: for so many frames, and as many samples. The error is lack
+    /// of memory.
+    pub(crate) fn new(alloc: Global, room: u32) -> Result<Account, AllocError>
+        ensures empty { IfOk result (λ a. IsEmpty a) }
+        ensures room { IfOk result (HasRoom room) }
     {
-        let counts = Counts::new(alloc, ROOM, ROOM)?;
+        let counts = Counts::new(alloc, room, room)?;
         Ok(Account {
             counts,
             owed: Vec::new(alloc),
@@ -171,6 +170,13 @@ impl Account {
         ensures { result ≡ self.now.unanswered }
     {
         self.unanswered
+    }
+
+    /// Samples for which there was no room.
+    pub(crate) fn no_room(&self) -> u64
+        ensures { result ≡ self.now.counts.no_room }
+    {
+        self.counts.no_room()
     }
 
     /// What was counted.

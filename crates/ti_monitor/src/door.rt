@@ -50,24 +50,28 @@ impl Door {
         }
     }
 
-    /// Opens a connection. `None` if there are 16, or if there is no memory. If there are 16, the one that has been idle for
-    /// longest closes: its `next` gives `Close`, and after `closed` there is room.
-    pub fn open(&mut self, now: u64) -> Option<ConnNo>
-        ensures opened { IfSome result (λ c. Opens self.old self.new c.0 (now / 1000000)) }
-        ensures full { IfNone result (AllRun self.old self.new) }
+    /// Opens a connection.
+    ///
+    /// The error is one of these. No connection opens then.
+    ///
+    /// - 216 (this service: `Full`): 16 connections are open. The one that has been idle for longest closes, unless one closes
+    ///   already or none is idle: its `next` gives `Close`, and after `closed` there is room.
+    /// - 110 OUT_OF_MEMORY (JVM TI 11): fewer are open, and there is no memory for one more. Nothing changed.
+    pub fn open(&mut self, now: u64) -> Result<ConnNo, DoorError>
+        ensures opened { IfOk result (λ c. Opens self.old self.new c.0 (now / 1000000)) }
+        ensures refused { IfErr result (OpensNone self.old self.new) }
         ensures few { length self.new.talks ≤ 16 }
-        ensures rest { IfNone result (self.new ≡ record self.old { talks = self.new.talks }) }
     {
         let seat = Seat::new(self.alloc, self.hosts, now);
         if let Some(conn) = self.seats.free() {
             self.seats.put(conn, seat);
-            return Some(conn);
+            return Ok(conn);
         }
-        let conn = self.seats.add(seat);
-        if conn.is_none() {
+        if self.seats.is_full() {
             self.make_room();
+            return Err(DoorError::Full);
         }
-        conn
+        self.seats.add(seat)
     }
 
     /// Closes the connection that has been idle for longest, unless one closes already.
@@ -278,13 +282,13 @@ impl Door {
     }
 }
 
-ghost use Rattle.std.specs.Prelude.{◌≡◌, ◌≤◌, ◌/◌, [], is_some, length, true, Err, IfErr, IfNone, IfOk, IfSome, None, OnErr, OnOk};
+ghost use Rattle.std.specs.Prelude.{◌≡◌, ◌≤◌, ◌/◌, [], is_some, length, true, Err, IfErr, IfOk, None, OnErr, OnOk};
 ghost use Rattle.std.specs.String.{string_bytes};
 ghost use Rattle.ti_http.specs.Talks.{written_from};
 ghost use Rattle.ti_monitor.specs.declared.door_error.DoorError.TheVariants.{NoConnection};
 ghost use Rattle.ti_service.specs.Leaving.{Disposes, StaysOn};
 ghost use Rattle.ti_service.specs.Memberships.{state_of};
-ghost use Rattle.ti_monitor.specs.Doors.{AllRun, Changes, Closes, Feeds, GoesOn, IsTicked, IsUnknown, Opens, Refuses, ServesAt, ServesOne, door_with, output_of, room_of, talk_at};
+ghost use Rattle.ti_monitor.specs.Doors.{AllRun, Changes, Closes, Feeds, GoesOn, IsTicked, IsUnknown, Opens, OpensNone, Refuses, ServesAt, ServesOne, door_with, output_of, room_of, talk_at};
 ghost use Rattle.ti_monitor.specs.Door.{no_answers};
 ghost use Rattle.ti_monitor.specs.Keeping.{kept};
 ghost use Rattle.ti_monitor.specs.Seats.{RunsTo, Says};

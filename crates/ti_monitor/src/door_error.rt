@@ -9,13 +9,16 @@ pub enum DoorError {
     /// 103 ILLEGAL_ARGUMENT (JVM TI 11): no connection of this number is open.
     #[error("no such connection is open")]
     NoConnection = 103,
-    /// 110 OUT_OF_MEMORY (JVM TI 11): there is no memory for the input or for an answer.
+    /// 110 OUT_OF_MEMORY (JVM TI 11): there is no memory for a connection, its input or an answer.
     #[error("out of memory")]
     OutOfMemory = 110,
+    /// 216 (this service): as many connections are open as may be.
+    #[error("all connections are open")]
+    Full = 216,
 }
 
 impl DoorError {
-    /// The number by which the error is known: JVM TI 11's.
+    /// The number by which the error is known: JVM TI 11's, or this service's.
     pub fn number(self) -> u32
         ensures { result ≡ number_of self }
     {

@@ -1,5 +1,6 @@
 //! The connections of a door, by number.
 
+use crate::door_error::DoorError;
 use crate::door_seat::Seat;
 
 /// Connections at once, at most.
@@ -61,7 +62,8 @@ impl Seats {
 
     /// A number that no connection has, if there is one below the number of places.
     pub(crate) fn free(&self) -> Option<ConnNo>
-        ensures { IfSome result (λ c. (c.0 < length self.now.list.items) × (seat_at self.now.list.items c.0 ≡ None)) }
+        ensures free { IfSome result (λ c. (c.0 < length self.now.list.items) × (seat_at self.now.list.items c.0 ≡ None)) }
+        ensures none { IfNone result (count_by is_some self.now.list.items ≡ length self.now.list.items) }
     {
         for place in 0..self.list.len() {
             if self.list[place].is_none() {
@@ -71,18 +73,25 @@ impl Seats {
         None
     }
 
-    /// Opens a connection at a new number. `None` if there are 16 places, or no memory; then nothing has changed.
-    pub(crate) fn add(&mut self, seat: Seat) -> Option<ConnNo>
-        ensures added { IfSome result (λ c. (c.0 ≡ length self.old.list.items) × (c.0 < 16) × (self.new.list.items ≡ self.old.list.items ++ Some seat ∷ [])) }
-        ensures none { IfNone result (self.new.list.items ≡ self.old.list.items) }
+    /// Whether there are as many places as there may be.
+    pub(crate) fn is_full(&self) -> bool
+        ensures full { OnTrue result (length self.now.list.items ≡ 16) }
+        ensures room { OnFalse result (length self.now.list.items < 16) }
+    {
+        self.list.len() >= MOST_CONNECTIONS
+    }
+
+    /// Opens a connection at a new number. The error is lack of memory. Then nothing has changed.
+    pub(crate) fn add(&mut self, seat: Seat) -> Result<ConnNo, DoorError>
+        requires { length self.old.list.items < 16 }
+        ensures added { IfOk result (λ c. (c.0 ≡ length self.old.list.items) × (c.0 < 16) × (self.new.list.items ≡ self.old.list.items ++ Some seat ∷ [])) }
+        ensures memory { IfErr result (λ e. e ≡ OutOfMemory) }
+        ensures same { OnErr result (self.new.list.items ≡ self.old.list.items) }
     {
         let place = self.list.len();
-        if place >= MOST_CONNECTIONS {
-            return None;
-        }
         match self.list.push(Some(seat)) {
-            Ok(()) => Some(ConnNo(place as u32)),
-            Err(_) => None,
+            Ok(()) => Ok(ConnNo(place as u32)),
+            Err(_) => Err(DoorError::OutOfMemory),
         }
     }
 
@@ -145,7 +154,9 @@ impl Seats {
     }
 }
 
-ghost use Rattle.std.specs.Prelude.{◌≡◌, ◌≤◌, ◌<◌, ◌++◌, [], ◌∷◌, None, Some, is_some, length, slice_set, IfNone, IfSome};
+ghost use Rattle.std.specs.Prelude.{◌≡◌, ◌≤◌, ◌<◌, ◌++◌, [], ◌∷◌, None, Some, is_some, length, slice_set, IfErr, IfNone, IfOk, IfSome, OnErr};
+ghost use Rattle.std.specs.Bool.{OnTrue, OnFalse};
 ghost use Rattle.std.specs.List.{count_by};
 ghost use Rattle.std.specs.Option.{option_copied};
+ghost use Rattle.ti_monitor.specs.declared.door_error.DoorError.TheVariants.{OutOfMemory};
 ghost use Rattle.ti_monitor.specs.SeatLists.{seat_at, without};

@@ -125,6 +125,8 @@ pub struct Metrics {
     pub at_once: u64,
     pub late: u64,
     pub unanswered: u64,
+    /// Samples for which a reading had no room. They count as one of these too.
+    pub no_room: u64,
 }
 
 impl Metrics {
@@ -147,6 +149,7 @@ impl Metrics {
             at_once: 0,
             late: 0,
             unanswered: 0,
+            no_room: 0,
         }
     }
 
@@ -166,6 +169,13 @@ impl Metrics {
         self.suspended_time = self
             .suspended_time
             .saturating_add(self.suspended.saturating_mul(passed));
+    }
+
+    /// Counts so many more samples for which a reading had no room.
+    pub(crate) fn count_no_room(&mut self, count: u64)
+        ensures { self.new ≡ record self.old { no_room = added self.old.no_room count } }
+    {
+        self.no_room = self.no_room.saturating_add(count);
     }
 
     /// Takes how many calls are out.

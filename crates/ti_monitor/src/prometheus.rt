@@ -149,7 +149,7 @@ fn push_answers(out: &mut Vec<u8>, answers: &Histogram) -> Result<(), AllocError
     push_plain(out, name, "_count", Unit::Count, answers.count)
 }
 
-/// Appends the metrics of profiles, but for their samples. The error is lack of memory.
+/// Appends the metrics of profiles, but for what came of their samples. The error is lack of memory.
 fn push_profiles(out: &mut Vec<u8>, metrics: &Metrics) -> Result<(), AllocError>
     ensures { OnOk result (out.new.items ≡ out.old.items ++ text_of (profile_lines metrics.now)) }
 {
@@ -184,6 +184,14 @@ fn push_profiles(out: &mut Vec<u8>, metrics: &Metrics) -> Result<(), AllocError>
         "Ticks that came too late to be taken.",
         Unit::Count,
         metrics.missed,
+    )?;
+    push_single(
+        out,
+        "profile_samples_no_room_total",
+        COUNTER,
+        "Samples for which a profile had no room.",
+        Unit::Count,
+        metrics.no_room,
     )
 }
 

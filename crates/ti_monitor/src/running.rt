@@ -18,6 +18,11 @@ const PATIENCE: u64 = 50_000_000;
 /// The nanoseconds of a second.
 const SECOND: u64 = 1_000_000_000;
 
+/// For how many frames and samples a reading of threads has room, and for how many a profile.
+const ROOM_ONCE: u32 = 65_536;
+
+const ROOM_OVER: u32 = 262_144;
+
 /// A reading that goes on, or has ended.
 #[derive(Drop)]
 pub(crate) struct Running {
@@ -54,6 +59,16 @@ fn plan(order: Order) -> (u64, u32, u64)
     }
 }
 
+/// For how many frames and samples a reading has room.
+fn room(order: Order) -> u32
+    ensures { result ≡ room_of order }
+{
+    match order {
+        Order::Once => ROOM_ONCE,
+        Order::Over { .. } => ROOM_OVER,
+    }
+}
+
 /// Whether a reading over some seconds is asked for.
 pub(crate) fn is_profile(order: Order) -> bool
     ensures { OnTrue result (profile_count order ≡ 1) × OnFalse result (profile_count order ≡ 0) }
@@ -66,6 +81,7 @@ pub(crate) fn is_profile(order: Order) -> bool
 
 impl Running {
     ghost use Rattle.ti_monitor.specs.Counted.{CountsLost, CountsStack, waits_for};
+    ghost use Rattle.ti_monitor.specs.Accounts.{HasRoom};
     ghost use Rattle.ti_monitor.specs.Orders.{labels_in};
     ghost use Rattle.ti_monitor.specs.Deadlines.{IsNextOf, waits_at_all};
     ghost use Rattle.ti_monitor.specs.Ticking.{EndsNow, IsNew, TicksIfDue, is_over, is_to_tick, late_of};
@@ -80,6 +96,7 @@ impl Running {
     ) -> Result<Running, AllocError>
         ensures no { IfOk result (λ r. r.no ≡ no) }
         ensures new { IfOk result (λ r. IsNew order now unix r) }
+        ensures room { IfOk result (λ r. HasRoom (room_of order) r.account) }
     {
         let (period, count, length) = plan(order);
         Ok(Running {
@@ -90,7 +107,7 @@ impl Running {
             over: now.saturating_add(length),
             ended: None,
             schedule: Schedule::new(now, period, count),
-            account: Account::new(alloc)?,
+            account: Account::new(alloc, room(order))?,
         })
     }
 
@@ -139,6 +156,11 @@ impl Running {
     /// How many ticks came too late.
     pub(crate) fn missed(&self) -> u32 {
         self.schedule.missed
+    }
+
+    /// Samples for which there was no room.
+    pub(crate) fn no_room(&self) -> u64 {
+        self.account.no_room()
     }
 
     /// When it ends though stacks are owed.
@@ -253,4 +275,4 @@ impl Running {
 
 ghost use Rattle.std.specs.Prelude.{◌≡◌, ◌<◌, ◌≤◌, ◌+◌, ◌^◌, true, is_some, IfOk};
 ghost use Rattle.std.specs.Bool.{OnTrue, OnFalse};
-ghost use Rattle.ti_monitor.specs.Orders.{length_of, period_of, profile_count, ticks_of};
+ghost use Rattle.ti_monitor.specs.Orders.{length_of, period_of, profile_count, room_of, ticks_of};

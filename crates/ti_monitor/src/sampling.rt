@@ -84,7 +84,9 @@ impl Readings {
         ensures orders { orders_of self.new.running.items ≡ orders_of self.old.running.items }
     {
         for reading in self.running.iter_mut() {
+            let no_room = reading.no_room();
             let owed = reading.answer(place, &self.stack, watched);
+            metrics.count_no_room(reading.no_room().saturating_sub(no_room));
             metrics.at_once = metrics.at_once.saturating_add(owed.min(1));
             metrics.late = metrics.late.saturating_add(owed.saturating_sub(1));
         }
@@ -97,7 +99,9 @@ impl Readings {
         ensures orders { orders_of self.new.running.items ≡ orders_of self.old.running.items }
     {
         for reading in self.running.iter_mut() {
+            let no_room = reading.no_room();
             let owed = reading.lose(place, function, watched);
+            metrics.count_no_room(reading.no_room().saturating_sub(no_room));
             metrics.unanswered = metrics.unanswered.saturating_add(owed);
         }
     }
@@ -313,8 +317,10 @@ pub(crate) fn end(reading: &mut Running, watched: &[Watched], metrics: &mut Metr
     ensures order { order_of reading.new ≡ order_of reading.old }
 {
     let missed = reading.missed();
+    let no_room = reading.no_room();
     let owed = reading.end(watched, now);
     let more = reading.missed().saturating_sub(missed);
+    metrics.count_no_room(reading.no_room().saturating_sub(no_room));
     metrics.missed = metrics.missed.saturating_add(u64::from(more));
     metrics.unanswered = metrics.unanswered.saturating_add(owed);
 }
