@@ -104,7 +104,7 @@ uint32_t cq_open_debugger(cq_service *service, const uint8_t *program, size_t pr
 
 /* Takes a new connection in. Writes its number to `connection`, below CQ_DOOR_CONNECTIONS. With CQ_FULL 216 all are in use. Then,
  * at a door for HTTP, the one that has been idle longest, if one is idle, is to be closed (cq_door_next); at one for debuggers
- * nothing changes. CQ_OUT_OF_MEMORY 110. */
+ * nothing changes. CQ_OUT_OF_MEMORY 110: there are fewer, and no memory for one more. Nothing changes. */
 uint32_t cq_door_connect(cq_door *door, uint64_t now, uint32_t *connection) CQ_MUST_USE;
 
 /* What is to be done with a connection. Writes one of CQ_DOOR_.. to `action`, and to `room` how many bytes cq_door_feed takes, at

@@ -126,7 +126,7 @@ ENUMERATOR = re.compile(r"(CQ_\w+) = (\w+),?[ \t]*(?:/\*(.*?)\*/)?", re.S)
 DEFINE = re.compile(r"^#define (CQ_(?!VERSION_|MUST_USE)\w+) (\w+)$", re.M)
 STRUCT = re.compile(r"^typedef struct \{(.*?)\} (cq_\w+);", re.M | re.S)
 FORWARD = re.compile(r"^typedef struct (cq_\w+) \1;", re.M)
-FUNCTION = re.compile(r"^((?:const )?\w+ \*?)(cq_\w+)\(([^;{}]*)\)(?: CQ_MUST_USE)?;$", re.M)
+FUNCTION = re.compile(r"^((?:const )?\w+ \*?)((?:cq|cebdyraq)_\w+)\(([^;{}]*)\)(?: CQ_MUST_USE)?;$", re.M)
 DECLARATION = re.compile(r"(const )?(\w+) (\*?)(const )?(\*?)(\w+)(?:\[(\d+)\])?")
 OF_FUNCTION = re.compile(r"(\w+ \*?)\(\*(\w+)\)\((.*)\)")
 SINCE = re.compile(r"\bSince (\d+)\.(\d+)\.")
@@ -249,3 +249,8 @@ def read(folder=header.C):
     if missed:
         raise SyntaxError(f"not read: {', '.join(sorted(missed))}")
     return api
+
+
+def read_inner(folder=header.C):
+    """The functions that the proved half gives to the C files of the library alone."""
+    return [one for part in header.parts(header.text_of(header.INNER, folder)) for one in functions_of(part, "", header.INNER)]

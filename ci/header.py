@@ -6,6 +6,8 @@ from collections import namedtuple
 
 C = pathlib.Path(__file__).resolve().parent.parent / "c"
 HEADERS = ("cebdyraq.h", "cebdyraq_wait.h", "cebdyraq_serve.h")
+# One that is not installed.
+INNER = "cebdyraq_proved.h"
 COMMENT = re.compile(r"^/\*(.*?)\*/$", re.M | re.S)
 PROTOTYPE = re.compile(r"^(?:\w+ )+\*?(cq_\w+)\([^;{}]*\)(?: CQ_MUST_USE)?;$", re.M)
 

@@ -136,6 +136,18 @@ static void tells_misuse(void) {
     SAME(deadline, 9);
 }
 
+/* Without memory for a first connection, none is taken in, though there is room for 16. */
+static void lacks_memory(void) {
+    uint32_t number = 77;
+    heap_refuse_after(0);
+    SAME(cq_door_connect(&door, now, &number), CQ_OUT_OF_MEMORY);
+    SAME(number, 77);
+    heap_refuse_after(-1);
+    OK(cq_door_connect(&door, now, &number));
+    SAME(number, 0);
+    OK(cq_door_disconnect(&door, number));
+}
+
 static void fills(void) {
     uint32_t at[CQ_DOOR_CONNECTIONS], number = 77;
     for (size_t i = 0; i < CQ_DOOR_CONNECTIONS; i++) {
@@ -162,6 +174,7 @@ int main(int argc, char **argv) {
     OK(cq_start(&thread));
     OK(cq_open_door(&service, (const uint8_t *)"test", 4, 6060, now, &door));
     tells_misuse();
+    lacks_memory();
     tick_after(1);
     gives_a_head_five_seconds();
     closes_who_is_idle();

@@ -32,7 +32,7 @@ STRINGS = [C / "cebdyraq_classes.c"]
 NAMES = [C / "cebdyraq_codes.c"]
 VERSION = [C / "cebdyraq_version.c"]
 VARIABLES = [C / "cebdyraq_variables.c"]
-SERVE = [C / name for name in ("cebdyraq_serve.c", "cebdyraq_listen.c", "cebdyraq_peer.c")] + VARIABLES
+SERVE = [C / name for name in ("cebdyraq_serve.c", "cebdyraq_listen.c", "cebdyraq_peer.c")] + VARIABLES + VERSION
 MODEL = [HERE / name for name in ("model.c", "model_calls.c", "model_envs.c", "model_traces.c")]
 
 PLAIN, ADDRESS, THREAD, VALGRIND = "plain", "address,undefined", "thread", "valgrind"
@@ -80,10 +80,10 @@ PROGRAMS = [
     Program("meet_on", ["meet_on.c"], COUNTED_HEAP, {VALGRIND: ["1"]}, wait=[]),
     Program("cxx", ["cxx.cpp"], HEAP + NAMES),
     Program("objects", ["objects.cpp"], HEAP + VERSION + NAMES),
-    Program("door", ["door.c", "door_random.c"], COUNTED_HEAP, {ADDRESS: ["20000"], THREAD: ["5000"], VALGRIND: ["300"]}, wait=[]),
+    Program("door", ["door.c", "door_random.c"], COUNTED_HEAP + VERSION, {ADDRESS: ["20000"], THREAD: ["5000"], VALGRIND: ["300"]}, wait=[]),
     Program("serve", SERVED, HEAP + STRINGS + SERVE, {VALGRIND: ["quick"]}),
     Program("tells", ["tells.c"], COUNTED_HEAP + VARIABLES, wait=[]),
-    Program("debugger", DEBUGGER, COUNTED_HEAP + STRINGS + VARIABLES, {THREAD: ["5000"], VALGRIND: ["300"]}, wait=[]),
+    Program("debugger", DEBUGGER, COUNTED_HEAP + STRINGS + VARIABLES + VERSION, {THREAD: ["5000"], VALGRIND: ["300"]}, wait=[]),
     Program("debug_listen", DEBUGGED, HEAP + STRINGS + SERVE),
     Program("fuzz", ["fuzz.c", "fuzz_calls.c"], MODEL + COUNTED_HEAP,
             {ADDRESS: ["1", "20000"], THREAD: ["1", "10000"], VALGRIND: ["1", "500"]}),

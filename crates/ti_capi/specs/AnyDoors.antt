@@ -4,7 +4,7 @@ use Rattle.ti_http.specs.Talks.{Talk, written_from}
 use Rattle.ti_types.specs.declared.error.TiError.{TiError}
 use Rattle.ti_types.specs.declared.error.TiError.TheVariants.{Busy}
 use Rattle.ti_monitor.specs.declared.door_error.DoorError.{DoorError}
-use Rattle.ti_monitor.specs.declared.door_error.DoorError.TheVariants.{NoConnection, OutOfMemory}
+use Rattle.ti_monitor.specs.declared.door_error.DoorError.TheVariants.{Full, NoConnection, OutOfMemory}
 use Rattle.ti_monitor.specs.declared.door_seat.Todo.{Todo as HttpTodo}
 use Rattle.ti_monitor.specs.declared.door_seat.Todo.TheVariants as http_todo
 use Rattle.ti_monitor.specs.Doors as http
@@ -74,11 +74,11 @@ Opens now c (any.Http d) (any.Http n) = http.Opens d n c (millis now)
 Opens now c (any.Debugger d) (any.Debugger n) = (c ≡ 0) × (d.session ≡ None) × opening.Opens d.starts (first (alive_in d.watched)) n × (n ≡ record d { session = n.session; starts = n.starts })
 Opens now c _ _ = ⊥
 
--- there is no room for one more connection
-abbrev pub IsFull : AnyDoor → AnyDoor → Type 0
-IsFull (any.Http d) (any.Http n) = (n ≡ record d { talks = n.talks }) × http.AllRun d n
-IsFull (any.Debugger d) (any.Debugger n) = (is_some d.session ≡ true) × (n ≡ d)
-IsFull _ _ = ⊥
+-- why no connection is taken in, and what becomes of those that are there
+abbrev pub OpensNone : AnyDoor → AnyDoor → DoorError → Type 0
+OpensNone (any.Http d) (any.Http n) e = http.OpensNone d n e
+OpensNone (any.Debugger d) (any.Debugger n) e = (e ≡ Full) × (is_some d.session ≡ true) × (n ≡ d)
+OpensNone _ _ e = ⊥
 
 -- a session goes on by calls, and none begins or ends
 abbrev pub SessionRuns : Option debugger_talks.Talk → Option debugger_talks.Talk → Type 0

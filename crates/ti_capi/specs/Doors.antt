@@ -1,5 +1,5 @@
 -- Doors, as C uses them.
-use Rattle.std.specs.Prelude.{ℕ, ◌≡◌, ◌⊎◌, codes, string_bytes, true, false, List, [], length, min, nat_lt, if◌then◌else◌, Option, None, Some, Result, Ok, Err, ⊤}
+use Rattle.std.specs.Prelude.{ℕ, ◌≡◌, ◌⊎◌, string_bytes, true, false, List, [], length, min, nat_lt, if◌then◌else◌, Option, None, Some, Result, Ok, Err, ⊤}
 use Rattle.ti_types.specs.TiError.{number_of}
 use Rattle.ti_types.specs.declared.error.TiError.{TiError}
 use Rattle.ti_types.specs.declared.error.TiError.TheVariants.{Full, OutOfMemory}
@@ -22,7 +22,7 @@ use Rattle.ti_capi.specs.declared.any_door.AnyDoor.TheVariants.{Http, Debugger}
 use Rattle.ti_capi.specs.declared.held.Held.{Held}
 use Rattle.ti_capi.specs.Codes.{misused, none_told}
 use Rattle.ti_capi.specs.declared.held.HeldDoor.{HeldDoor}
-use Rattle.ti_capi.specs.AnyDoors.{AllRun, EndsAs, Feeds, Goes, IsFull, MayEnd, Opens, Refuses, StaysAs, Ticks, is_there, output_at, resumptions, room_at}
+use Rattle.ti_capi.specs.AnyDoors.{AllRun, EndsAs, Feeds, Goes, MayEnd, Opens, OpensNone, Refuses, StaysAs, Ticks, is_there, output_at, resumptions, room_at}
 use Rattle.ti_capi.specs.Handles.{Handle, door_box_in, door_of, service_in, with_door_box}
 use Rattle.ti_capi.specs.Services.{Fills, FillsBy, NamesWrongly, RefusesEnv}
 use Rattle.ti_capi.specs.Values.{over}
@@ -33,6 +33,7 @@ hosts_at port = if nat_lt port 65536 then hosts.Local port else hosts.Any
 abbrev pub code_refused : DoorError → ℕ
 code_refused door_error.NoConnection = none_told
 code_refused door_error.OutOfMemory = number_of OutOfMemory
+code_refused door_error.Full = number_of Full
 
 abbrev pub code_done : Result ⊤ DoorError → ℕ
 code_done (Ok u) = 0
@@ -59,9 +60,9 @@ CallsBehind does unwritten None after old new code = (new ≡ old) × (code ≡ 
 abbrev pub CallsDoor : (AnyDoor → AnyDoor → ℕ → Type 0) → (unwritten : Type 0) → Handle → Handle → ℕ → Type 0
 CallsDoor does unwritten old new code = CallsBehind does unwritten (door_box_in old) (door_box_in new) old new code
 
--- a connection is taken in. Or there is no room for one: then those that are there go on, and nothing is written
+-- a connection is taken in. Or it is refused: then those that are there go on, and nothing is written
 abbrev pub Connects : ℕ → ℕ → ℕ → AnyDoor → AnyDoor → ℕ → Type 0
-Connects now c c' d n code = ((code ≡ 0) × Opens now c' d n) ⊎ ((code ≡ number_of Full) × IsFull d n × (c' ≡ c))
+Connects now c c' d n code = ((code ≡ 0) × Opens now c' d n) ⊎ ((e : DoorError) × (code ≡ code_refused e) × OpensNone d n e × (c' ≡ c))
 
 -- A call of this connection is refused: there is none of its number, or no memory
 abbrev pub RefusesAt : AnyDoor → ℕ → ℕ → Type 0
@@ -123,13 +124,13 @@ ClosesBehind None after old new code = (new ≡ old) × (code ≡ misused)
 abbrev pub ClosesDoor : Handle → Handle → ℕ → Type 0
 ClosesDoor old new code = ClosesBehind (door_box_in old) (door_box_in new) old new code
 
--- why there is no door: the program's name is no text, or no environment came
-abbrev pub RefusesDoor : List ℕ → Member → Member → TiError → Type 0
-RefusesDoor name m n e = (NamesWrongly name e × (n ≡ m)) ⊎ RefusesEnv m n e
+-- one of two texts is none, or there is no memory for it
+abbrev pub NamesOneWrongly : List ℕ → List ℕ → TiError → Type 0
+NamesOneWrongly one other e = NamesWrongly one e ⊎ NamesWrongly other e
 
--- the version of this library
-abbrev pub version : List ℕ
-version = codes "2.3.0"
+-- why there is no door: the program's name or the version is no text, or no environment came
+abbrev pub RefusesDoor : List ℕ → List ℕ → Member → Member → TiError → Type 0
+RefusesDoor name version m n e = (NamesOneWrongly name version e × (n ≡ m)) ⊎ RefusesEnv m n e
 
 -- A door without connections, with an environment of its own that came by this handle of the service. It serves the hosts of the
 -- port, and tells this name and this version
@@ -140,26 +141,26 @@ pub record Serves (name version : List ℕ) (port : ℕ) (m : Member) (d : DoorV
   pub version_is : d.version ≡ version
   pub agent_is : (a : AgentValue) × IsNewAgent m (state_of a) × MayEnable (state_of a) (state_of d.agent)
 
-abbrev pub ServesAt : List ℕ → ℕ → Member → Option AnyDoor → Type 0
-ServesAt name port m (Some (Http d)) = Serves name version port m d
-ServesAt name port m (Some (Debugger d)) = ⊥
-ServesAt name port m None = ⊥
+abbrev pub ServesAt : List ℕ → List ℕ → ℕ → Member → Option AnyDoor → Type 0
+ServesAt name version port m (Some (Http d)) = Serves name version port m d
+ServesAt name version port m (Some (Debugger d)) = ⊥
+ServesAt name version port m None = ⊥
 
-abbrev pub HasDoor : List ℕ → ℕ → Member → Option Held → Type 0
-HasDoor name port m held = ServesAt name port m (door_of held)
+abbrev pub HasDoor : List ℕ → List ℕ → ℕ → Member → Option Held → Type 0
+HasDoor name version port m held = ServesAt name version port m (door_of held)
 
-abbrev pub OpensFor : List ℕ → ℕ → Member → Member → Handle → Handle → ℕ → Type 0
-OpensFor name port m n old new code = Fills (n ≡ m) (λ x. (n ≡ with_handle m) × HasDoor name port m x) (RefusesDoor name m n) old new code
+abbrev pub OpensFor : List ℕ → List ℕ → ℕ → Member → Member → Handle → Handle → ℕ → Type 0
+OpensFor name version port m n old new code = Fills (n ≡ m) (λ x. (n ≡ with_handle m) × HasDoor name version port m x) (RefusesDoor name version m n) old new code
 
-abbrev pub OpensDoor : List ℕ → ℕ → Handle → Handle → Handle → Handle → ℕ → Type 0
-OpensDoor name port s0 s1 old new code = FillsBy (OpensFor name port) (service_in s0) (service_in s1) s0 s1 old new code
+abbrev pub OpensDoor : List ℕ → List ℕ → ℕ → Handle → Handle → Handle → Handle → ℕ → Type 0
+OpensDoor name version port s0 s1 old new code = FillsBy (OpensFor name version port) (service_in s0) (service_in s1) s0 s1 old new code
 
--- one of two names is no text, or there is no memory for it
-abbrev pub NamesOneWrongly : List ℕ → List ℕ → TiError → Type 0
-NamesOneWrongly name path e = NamesWrongly name e ⊎ NamesWrongly path e
+-- one of three texts is none, or there is no memory for it
+abbrev pub TellsWrongly : List ℕ → List ℕ → List ℕ → TiError → Type 0
+TellsWrongly name path version e = NamesOneWrongly name path e ⊎ NamesWrongly version e
 
-abbrev pub RefusesDebugger : List ℕ → List ℕ → Member → Member → TiError → Type 0
-RefusesDebugger name path m n e = (NamesOneWrongly name path e × (n ≡ m)) ⊎ RefusesEnv m n e
+abbrev pub RefusesDebugger : List ℕ → List ℕ → List ℕ → Member → Member → TiError → Type 0
+RefusesDebugger name path version m n e = (TellsWrongly name path version e × (n ≡ m)) ⊎ RefusesEnv m n e
 
 -- debuggers are told this name, this path and this version
 pub record TellsAbout (name path version : List ℕ) (a : About) : Type 0 where
@@ -171,16 +172,16 @@ pub record TellsAbout (name path version : List ℕ) (a : About) : Type 0 where
 
 -- No debugger is connected, none has suspended a thread, and this is what debuggers are told of the program. The runtime waits for no
 -- debugger and tells no variables, no question is open, and no text or table is kept
-abbrev pub Awaits : List ℕ → List ℕ → Option AnyDoor → Type 0
-Awaits name path (Some (Debugger d)) = (d.session ≡ None) × NoneHeld d.watched × TellsAbout name path version d.about × (d.starts ≡ false) × (d.tells ≡ false) × (d.asked ≡ asked.Nothing) × (d.objects ≡ [])
-Awaits name path (Some (Http d)) = ⊥
-Awaits name path None = ⊥
+abbrev pub Awaits : List ℕ → List ℕ → List ℕ → Option AnyDoor → Type 0
+Awaits name path version (Some (Debugger d)) = (d.session ≡ None) × NoneHeld d.watched × TellsAbout name path version d.about × (d.starts ≡ false) × (d.tells ≡ false) × (d.asked ≡ asked.Nothing) × (d.objects ≡ [])
+Awaits name path version (Some (Http d)) = ⊥
+Awaits name path version None = ⊥
 
-abbrev pub AwaitsDebugger : List ℕ → List ℕ → Option Held → Type 0
-AwaitsDebugger name path held = Awaits name path (door_of held)
+abbrev pub AwaitsDebugger : List ℕ → List ℕ → List ℕ → Option Held → Type 0
+AwaitsDebugger name path version held = Awaits name path version (door_of held)
 
-abbrev pub OpensDebuggerFor : List ℕ → List ℕ → Member → Member → Handle → Handle → ℕ → Type 0
-OpensDebuggerFor name path m n old new code = Fills (n ≡ m) (λ x. (n ≡ with_handle m) × AwaitsDebugger name path x) (RefusesDebugger name path m n) old new code
+abbrev pub OpensDebuggerFor : List ℕ → List ℕ → List ℕ → Member → Member → Handle → Handle → ℕ → Type 0
+OpensDebuggerFor name path version m n old new code = Fills (n ≡ m) (λ x. (n ≡ with_handle m) × AwaitsDebugger name path version x) (RefusesDebugger name path version m n) old new code
 
-abbrev pub OpensDebugger : List ℕ → List ℕ → Handle → Handle → Handle → Handle → ℕ → Type 0
-OpensDebugger name path s0 s1 old new code = FillsBy (OpensDebuggerFor name path) (service_in s0) (service_in s1) s0 s1 old new code
+abbrev pub OpensDebugger : List ℕ → List ℕ → List ℕ → Handle → Handle → Handle → Handle → ℕ → Type 0
+OpensDebugger name path version s0 s1 old new code = FillsBy (OpensDebuggerFor name path version) (service_in s0) (service_in s1) s0 s1 old new code

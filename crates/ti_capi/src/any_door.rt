@@ -46,14 +46,20 @@ fn todo_at_door(todo: HttpTodo) -> Todo
 }
 
 impl AnyDoor {
-    /// Takes a new connection in, and gives its number. `None` if all are in use, or there is no memory.
-    pub(crate) fn connect(&mut self, now: u64) -> Option<u32>
-        ensures opened { IfSome result (λ c. Opens now c self.old self.new) }
-        ensures full { IfNone result (IsFull self.old self.new) }
+    /// Takes a new connection in, and gives its number. The error is `Full` if as many are there as may be, or `OutOfMemory`.
+    pub(crate) fn connect(&mut self, now: u64) -> Result<u32, DoorError>
+        ensures opened { IfOk result (λ c. Opens now c self.old self.new) }
+        ensures refused { IfErr result (OpensNone self.old self.new) }
     {
         match self {
-            AnyDoor::Http(door) => Some(door.open(now)?.0),
-            AnyDoor::Debugger(debugger) => { if debugger.connect(now) { Some(0) } else { None } }
+            AnyDoor::Http(door) => Ok(door.open(now)?.0),
+            AnyDoor::Debugger(debugger) => {
+                if debugger.connect(now) {
+                    Ok(0)
+                } else {
+                    Err(DoorError::Full)
+                }
+            }
         }
     }
 
@@ -303,4 +309,4 @@ impl AnyDoor {
 ghost use Rattle.std.specs.Prelude.{◌≡◌, IfErr, IfNone, IfOk, IfSome, OnErr, OnOk};
 ghost use Rattle.ti_capi.specs.Codes.{code_done};
 ghost use Rattle.ti_capi.specs.Questions.{SaysPops, SaysStarts, SaysTells, TellsNone, TellsTold, TellsVariables, question_at};
-ghost use Rattle.ti_capi.specs.AnyDoors.{AllRun, Disconnects, Ends, EndsAs, Feeds, Goes, IsFull, IsUnknown, MayEnd, Opens, Refuses, StaysAs, Ticks, Writes, at_door, is_there, only, output_at, resumptions, room_at, todo_at_door};
+ghost use Rattle.ti_capi.specs.AnyDoors.{AllRun, Disconnects, Ends, EndsAs, Feeds, Goes, IsUnknown, MayEnd, Opens, OpensNone, Refuses, StaysAs, Ticks, Writes, at_door, is_there, only, output_at, resumptions, room_at, todo_at_door};

@@ -14,9 +14,6 @@ use ti_monitor::{Door, DoorError, Monitor};
 use ti_service::Service;
 use ti_types::TiError;
 
-/// The version that `/metrics` and a debugger are told, which is that of `cebdyraq.h`.
-const VERSION: &str = "2.3.0";
-
 /// The hosts that are served at a port. Above 65,535 there is no port, and every host is served.
 fn hosts_at(port: u32) -> Hosts
     ensures { result ≡ hosts_at port }
@@ -35,6 +32,7 @@ fn refusal_code(error: DoorError) -> u32
     match error {
         DoorError::NoConnection => CQ_NONE,
         DoorError::OutOfMemory => TiError::OutOfMemory.number(),
+        DoorError::Full => TiError::Full.number(),
     }
 }
 
@@ -60,20 +58,21 @@ fn action_of(todo: Todo) -> u32
     }
 }
 
-/// A door for requests of HTTP in a box, with an environment of its own.
+/// A door for requests of HTTP in a box, with an environment of its own. `/metrics` tells the version.
 fn open(
     alloc: Global,
     service: &mut Service,
     program: &[u8],
+    version: &[u8],
     port: u32,
     now: u64,
 ) -> Result<Box<Held>, TiError>
     ensures made { OnOk result (service.new ≡ with_handle service.old) }
-    ensures opened { IfOk result (λ b. HasDoor program.now port service.old (Some b.value)) }
-    ensures refused { IfErr result (λ e. RefusesDoor program.now service.old service.new e) }
+    ensures opened { IfOk result (λ b. HasDoor program.now version.now port service.old (Some b.value)) }
+    ensures refused { IfErr result (λ e. RefusesDoor program.now version.now service.old service.new e) }
 {
     let program = name_of(alloc, program)?;
-    let version = String::from_str(alloc, VERSION)?;
+    let version = name_of(alloc, version)?;
     let mut held = boxed(alloc, Held::Door(HeldDoor { door: None }))?;
     let agent = service.attach_environment_now(alloc)?;
     let monitor = Monitor::new(alloc, agent, program, now);
@@ -84,30 +83,31 @@ fn open(
     Ok(held)
 }
 
-/// Opens a door for requests of HTTP.
+/// Opens a door for requests of HTTP. `cq_open_door` calls it, and gives the version of the library.
 #[unsafe(no_mangle)]
-pub extern "C" fn cq_open_door(
+pub extern "C" fn cebdyraq_open_door(
     alloc: Global,
     service: &mut CqService,
     program: &[u8],
+    version: &[u8],
     port: u32,
     now: u64,
     door: &mut CqDoor,
 ) -> u32
-    ensures { OpensDoor program.now port service.old service.new door.old door.new result }
+    ensures { OpensDoor program.now version.now port service.old service.new door.old door.new result }
 {
     makes!(service for door);
-    fill(door, open(alloc, service, program, port, now))
+    fill(door, open(alloc, service, program, version, port, now))
 }
 
-/// What a debugger is told of the runtime.
-fn about(alloc: Global, program: &[u8], path: &[u8], version: String) -> Result<About, TiError>
-    ensures told { IfOk result (TellsAbout program.now path.now (string_bytes version)) }
-    ensures refused { IfErr result (NamesOneWrongly program.now path.now) }
+/// What a debugger is told of the runtime, and of the library by its version.
+fn about(alloc: Global, program: &[u8], path: &[u8], version: &[u8]) -> Result<About, TiError>
+    ensures told { IfOk result (TellsAbout program.now path.now version.now) }
+    ensures refused { IfErr result (TellsWrongly program.now path.now version.now) }
 {
     Ok(About {
         description: name_of(alloc, program)?,
-        version,
+        version: name_of(alloc, version)?,
         name: name_of(alloc, program)?,
         base: name_of(alloc, path)?,
         path: name_of(alloc, path)?,
@@ -120,13 +120,13 @@ fn open_debugger(
     service: &mut Service,
     program: &[u8],
     path: &[u8],
+    version: &[u8],
     now: u64,
 ) -> Result<Box<Held>, TiError>
     ensures made { OnOk result (service.new ≡ with_handle service.old) }
-    ensures opened { IfOk result (λ b. AwaitsDebugger program.now path.now (Some b.value)) }
-    ensures refused { IfErr result (λ e. RefusesDebugger program.now path.now service.old service.new e) }
+    ensures opened { IfOk result (λ b. AwaitsDebugger program.now path.now version.now (Some b.value)) }
+    ensures refused { IfErr result (λ e. RefusesDebugger program.now path.now version.now service.old service.new e) }
 {
-    let version = String::from_str(alloc, VERSION)?;
     let about = about(alloc, program, path, version)?;
     let mut held = boxed(alloc, Held::Door(HeldDoor { door: None }))?;
     let agent = service.attach_environment_now(alloc)?;
@@ -136,20 +136,24 @@ fn open_debugger(
     Ok(held)
 }
 
-/// Opens a door for debuggers.
+/// Opens a door for debuggers. `cq_open_debugger` calls it, and gives the version of the library.
 #[unsafe(no_mangle)]
-pub extern "C" fn cq_open_debugger(
+pub extern "C" fn cebdyraq_open_debugger(
     alloc: Global,
     service: &mut CqService,
     program: &[u8],
     path: &[u8],
+    version: &[u8],
     now: u64,
     door: &mut CqDoor,
 ) -> u32
-    ensures { OpensDebugger program.now path.now service.old service.new door.old door.new result }
+    ensures { OpensDebugger program.now path.now version.now service.old service.new door.old door.new result }
 {
     makes!(service for door);
-    fill(door, open_debugger(alloc, service, program, path, now))
+    fill(
+        door,
+        open_debugger(alloc, service, program, path, version, now),
+    )
 }
 
 /// Takes a new connection in.
@@ -159,11 +163,11 @@ pub extern "C" fn cq_door_connect(door: &mut CqDoor, now: u64, connection: &mut 
 {
     behind!(door in door.held_door());
     match door.connect(now) {
-        Some(number) => {
+        Ok(number) => {
             *connection = number;
             CQ_OK
         }
-        None => TiError::Full.number(),
+        Err(error) => refusal_code(error),
     }
 }
 
@@ -310,7 +314,7 @@ fn close(held: &mut HeldDoor) -> u32
     }
 }
 
-ghost use Rattle.std.specs.Prelude.{◌≡◌, ⊤, IfErr, IfOk, OnOk, Some, string_bytes};
+ghost use Rattle.std.specs.Prelude.{◌≡◌, ⊤, IfErr, IfOk, OnOk, Some};
 ghost use Rattle.ti_capi.specs.AnyDoors.{Disconnects, Ends, Writes};
-ghost use Rattle.ti_capi.specs.Doors.{AwaitsDebugger, CallsDoor, ChangesOne, Closes, ClosesDoor, Connects, GivesOutput, HasDoor, IsTicked, NamesOneWrongly, OpensDebugger, OpensDoor, RefusesDebugger, RefusesDoor, Takes, Tells, TellsAbout, TellsResumptions, action_of, code_done, code_refused, hosts_at};
+ghost use Rattle.ti_capi.specs.Doors.{AwaitsDebugger, CallsDoor, ChangesOne, Closes, ClosesDoor, Connects, GivesOutput, HasDoor, IsTicked, OpensDebugger, OpensDoor, RefusesDebugger, RefusesDoor, Takes, Tells, TellsAbout, TellsResumptions, TellsWrongly, action_of, code_done, code_refused, hosts_at};
 ghost use Rattle.ti_service.specs.Service.{with_handle};

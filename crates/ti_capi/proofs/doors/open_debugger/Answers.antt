@@ -6,5 +6,5 @@ use Rattle.ti_capi.proofs.doors.open_debugger.Goals as goal
 
 pub returns-in_err-agent-clause-refused : goal.returns-in_err-agent-clause-refused
 returns-in_err-agent-clause-refused c =
-    if_err (λ (e : TiError). RefusesDebugger c.args.program.now c.args.path.now c.args.service.now c.attach_environment_now.new.self e) c.from_residual-in_err-agent.result c.in_err-agent.field-0.0 (search rules)
+    if_err (λ (e : TiError). RefusesDebugger c.args.program.now c.args.path.now c.args.version.now c.args.service.now c.attach_environment_now.new.self e) c.from_residual-in_err-agent.result c.in_err-agent.field-0.0 (search rules)
     (inr (inr c.in_err-agent.ensures.refused))

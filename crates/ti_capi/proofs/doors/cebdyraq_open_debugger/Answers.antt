@@ -1,7 +1,7 @@
 use Rattle.std.proofs.Common.{sym, ◌∙◌}
 use Rattle.std.specs.Box.{box_value}
 use Rattle.ti_capi.proofs.Filling.{both_ok, filled, filled_by}
-use Rattle.ti_capi.proofs.doors.cq_open_debugger.Goals as goal
+use Rattle.ti_capi.proofs.doors.cebdyraq_open_debugger.Goals as goal
 
 pub returns : goal.returns
 returns c =
