@@ -34,7 +34,7 @@ class Unwind(unittest.TestCase):
         of_serve = {"cq_serve", "cq_debug_listen", "cq_serve_end", "cq_server_port", "cq_server_pops_frames", "cq_server_variables",
                     "cq_server_starts_suspended", "cq_server_await_resumption", "cq_server_tell_classes"}
         of_variables = {"cq_door_answer"} | {name for name in header.functions() if name.startswith("cq_tell_")}
-        of_others = {"cq_version", "cq_set_heap", "cq_define_class_strings", "cq_code_name", "cq_code_text"}
+        of_others = {"cq_version", "cq_open_door", "cq_open_debugger", "cq_set_heap", "cq_define_class_strings", "cq_code_name", "cq_code_text"}
         self.assertEqual(covered, of_wait | of_serve | of_variables | of_others)
 
     @wants("perf")
