@@ -19,7 +19,7 @@ What each code means, and which functions give it. `man 3 cebdyraq` says when. N
 
 If several codes fit, a function gives the first of its list, except that BUSY may come before any of them.
 
-- Each function that takes a {handles} also gives 304 MISUSED, before all others{never}.
+- Each function that takes a {handles} also gives MISUSED, before all others{never}.
 - *Calls at a thread* may also give {in_common}. Where `cebdyraq_wait.h` has the call it waits in place of {waits}.
 - *The call's* are the codes of the call whose answer is collected.
 """
@@ -51,12 +51,9 @@ class Page:
     def __init__(self, table):
         self.table, self.codes = table, codes.Codes(table)
 
-    def numbered(self, names):
-        return ", ".join(f"{self.codes.numbers[name]} {name}" for name in names)
-
     def given(self, function):
         """What a function gives, as a cell of the table."""
-        told = [self.numbered(self.codes.of(function.name))] if self.codes.of(function.name) else []
+        told = [", ".join(self.codes.of(function.name))] if self.codes.of(function.name) else []
         if self.codes.at_a_thread(function.name):
             told.insert(0, "*Calls at a thread*")
         if self.codes.of_the_call(function.name):
@@ -75,8 +72,8 @@ class Page:
         common = self.codes.in_common()
         waits = [name for name in common if name in codes.ENDED_BY_WAITING | codes.ENDED_AT_A_THREAD]
         head = HEAD.format(said=SAID, meanings="\n".join(map(meaning, self.table.enum("cq_code").constants)), handles=listed(quoted(handles)),
-                           never=f", but for {listed(quoted(never))}" if never else "", in_common=self.numbered(common),
-                           waits=listed(f"{self.codes.numbers[name]}" for name in waits))
+                           never=f", but for {listed(quoted(never))}" if never else "", in_common=listed(common, " and "),
+                           waits=listed(waits))
         return head + "".join(map(self.part, header.HEADERS))
 
 
