@@ -22,6 +22,7 @@ If several codes fit, a function gives the first of its list, except that BUSY m
 - Each function that takes a {handles} also gives MISUSED, before all others{never}.
 - *Calls at a thread* may also give {in_common}. Where `cebdyraq_wait.h` has the call it waits in place of {waits}.
 - *The call's* are the codes of the call whose answer is collected.
+- A function of `cebdyraq_wait.h` that is not below gives what its namesake gives, without {ended}, and TIMED_OUT if it takes a time.
 """
 PART = """
 ### {header}
@@ -29,8 +30,6 @@ PART = """
 | Function | Codes |
 |---|---|
 {rows}
-
-No other code: {others}.
 """
 
 
@@ -60,11 +59,21 @@ class Page:
             told.append("*The call's*")
         return "; ".join(told)
 
+    def follows(self, function):
+        """Whether a waiting function gives what its namesake gives, but for what its waiting ends."""
+        if function.namesake == function.name or function.namesake not in self.codes.functions:
+            return False
+        ended = codes.ENDED_BY_WAITING | (codes.ENDED_AT_A_THREAD if self.codes.at_a_thread(function.name) else set())
+        left = set(self.codes.of(function.namesake)) - ended
+        return set(self.codes.of(function.name)) == left | ({"TIMED_OUT"} if self.codes.may_time_out(function) else set())
+
     def part(self, name):
-        """The functions of a header that give a code."""
+        """The functions of a header that give a code, but for those that follow their namesakes."""
         functions = [one for one in self.table.functions if one.header == name and one.result == api.Type("uint32_t") and one.parameters]
+        functions = [one for one in functions if not self.follows(one)]
         rows = [f"| `{one.name}` | {self.given(one)} |" for one in functions if self.given(one)]
-        return PART.format(header=name, rows="\n".join(rows), others=", ".join(quoted(one.name for one in functions if not self.given(one))))
+        others = [one.name for one in functions if not self.given(one)]
+        return PART.format(header=name, rows="\n".join(rows)) + (f"\nNo other code: {', '.join(quoted(others))}.\n" if others else "")
 
     def text(self):
         handles = [one.name for one in self.table.structs if one.members and [member.name for member in one.members] == ["kind", "at"]]
@@ -73,7 +82,7 @@ class Page:
         waits = [name for name in common if name in codes.ENDED_BY_WAITING | codes.ENDED_AT_A_THREAD]
         head = HEAD.format(said=SAID, meanings="\n".join(map(meaning, self.table.enum("cq_code").constants)), handles=listed(quoted(handles)),
                            never=f", but for {listed(quoted(never))}" if never else "", in_common=listed(common, " and "),
-                           waits=listed(waits))
+                           waits=listed(waits), ended=listed(sorted(codes.ENDED_BY_WAITING)))
         return head + "".join(map(self.part, header.HEADERS))
 
 
