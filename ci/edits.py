@@ -17,11 +17,9 @@ them is made without the other.
 It writes TAP, with a test for each edit.
 """
 
-import contextlib
 import dataclasses
 import os
 import pathlib
-import queue
 import re
 import shutil
 import subprocess
@@ -31,11 +29,11 @@ from concurrent import futures
 
 sys.dont_write_bytecode = True
 
+import rattle
 import tap
 
 CRATES = pathlib.Path("crates")
-LEFT_BEHIND = ("edits", "more-edits", "must-not-compile", "out")
-# How many crates are tried at once, each in a tree of its own. A check with one job keeps a processor busy, and takes up to 4 GB.
+# How many crates are tried at once. A check with one job keeps a processor busy, and takes up to 4 GB.
 AT_ONCE = len(os.sched_getaffinity(0))
 
 
@@ -115,51 +113,21 @@ class Said:
         return any(function and path.endswith(f"::{function}") or path == function for function in functions for path in paths)
 
     @classmethod
-    def of(cls, folder, *flags):
-        done = subprocess.run(["rt", "check", "--jobs", "1", *flags], cwd=folder, stdout=subprocess.PIPE, stderr=subprocess.STDOUT, text=True, errors="replace")
+    def of(cls, crate, folder, *flags):
+        done = rattle.call("check", crate, *flags, cwd=folder, stdout=subprocess.PIPE, stderr=subprocess.STDOUT, text=True, errors="replace")
         callers = set(re.findall(r"^fn (\S+): (?:no proof: it|not proved; it) calls", done.stdout, re.M))
         unproved = set(re.findall(r"^fn (\S+): (?:not proved(?!; it calls)|no proof: (?!it calls))", done.stdout, re.M))
         return cls(unproved, callers, done.stdout[-800:] if done.returncode and not callers | unproved else "")
 
 
-def link(source, target):
-    """Gives a file a second name, or copies it where there is none to be had."""
-    try:
-        os.link(source, target)
-    except OSError:
-        shutil.copy2(source, target)
-
-
-class Tree:
-    """A copy of all crates. What was built of them, in out/, is not copied but for the crate that is tried."""
-
-    def __init__(self, room):
-        self.room = pathlib.Path(room)
-        for file in ("crates.txt", "HANDLES"):
-            shutil.copy(file, room)
-        for crate in CRATES.iterdir():
-            shutil.copytree(crate, self.room / crate, ignore=lambda folder, names: {name for name in names if pathlib.Path(folder) == crate and name in LEFT_BEHIND})
-            if (crate / "out").is_dir():
-                shutil.copytree(crate / "out", self.room / crate / "out", copy_function=link)
-
-    @contextlib.contextmanager
-    def copy_of(self, crate):
-        """The crate's copy, with what was built of it."""
-        out, aside = self.room / crate / "out", self.room / "aside"
-        if out.is_dir():
-            out.rename(aside)
-            shutil.copytree(crate / "out", out)
-        yield Copy(crate, self.room / crate)
-        if aside.is_dir():
-            shutil.rmtree(out)
-            aside.rename(out)
-
-
 class Copy:
-    """A crate's copy, in which edits are made."""
+    """A crate's copy, in which edits are made. Its checks keep what they proved."""
 
-    def __init__(self, crate, folder):
-        self.crate, self.folder = crate, folder
+    def __init__(self, crate, room):
+        self.crate, self.folder = crate, pathlib.Path(room)
+        for part in rattle.PARTS:
+            if (crate / part).is_dir():
+                shutil.copytree(crate / part, self.folder / part)
 
     def choose(self, waiting):
         """Edits that can be tried together, with their functions, and the texts of files with all of them."""
@@ -182,7 +150,8 @@ class Copy:
         functions = set().union(*(functions for _, functions in chosen)) - {None}
         for file, text in texts.items():
             (self.folder / file).write_text(text)
-        said = Said.of(self.folder, *(word for function in sorted(functions) for word in ("--only", function) if not is_whole))
+        only = () if is_whole else (word for function in sorted(functions) for word in ("--only", function))
+        said = Said.of(rattle.crates()[self.crate.name], self.folder, "--incremental", "incremental", *only)
         for file in texts:
             shutil.copy(self.crate / file, self.folder / file)
         return said
@@ -229,25 +198,19 @@ def apply_all(names):
     return told.end()
 
 
+def refused(crate, edits, is_whole):
+    with tempfile.TemporaryDirectory(prefix="edits-") as room:
+        return Copy(crate, room).refused(edits, is_whole)
+
+
 def try_all(folder, names):
     work = [(crate, edits) for crate in crates_of(names) if (edits := edits_of(crate, folder))]
-    trees = queue.SimpleQueue()
     told = tap.Tap()
-
-    def refused(crate, edits):
-        tree = trees.get()
-        try:
-            with tree.copy_of(crate) as copy:
-                return copy.refused(edits, folder == "more-edits")
-        finally:
-            trees.put(tree)
-
-    with contextlib.ExitStack() as rooms, futures.ThreadPoolExecutor(AT_ONCE) as pool:
-        for _ in range(AT_ONCE):
-            trees.put(Tree(rooms.enter_context(tempfile.TemporaryDirectory(prefix="edits-"))))
-        for (_, edits), found in zip(work, pool.map(refused, *zip(*work)) if work else ()):
+    with futures.ThreadPoolExecutor(AT_ONCE) as pool:
+        tries = [pool.submit(refused, crate, edits, folder == "more-edits") for crate, edits in work]
+        for (_, edits), found in zip(work, tries):
             for edit in edits:
-                told.result(f"{edit.crate}/{edit.name} is refused", "" if edit in found else "its crate is proved with it, or does not compile")
+                told.result(f"{edit.crate}/{edit.name} is refused", "" if edit in found.result() else "its crate is proved with it, or does not compile")
     return told.end()
 
 

@@ -4,8 +4,9 @@
     ci/gate.py [JUNIT]      also writes all results into this file, as JUnit's XML
 
 Each test program writes TAP (`ci/tap.py`). What passed is only counted. The toolchain's `rt ci` has a last line of its own,
-'N passed, M failed'. It leaves `tiwalk` and `tilint` in their crates' `out/` as LLVM builds them, and, where Rattle's own compiler took
-them, as that builds them. By `ci/rt_ci.py` it leaves the static library too.
+'N passed, M failed'. It leaves the libraries that it proved, and `tiwalk` and `tilint` in their crates' `out/` as LLVM builds them, and,
+where Rattle's own compiler took them, as that builds them. Of the static library it leaves nothing, so `rattle build` proves that crate
+once more, over the libraries below it as they lie there (`ci/rattle.py`).
 
 The last line is 'N passed, M failed' of all, and the line before it has the processor time that all of this took.
 """
@@ -22,7 +23,7 @@ from xml.etree import ElementTree
 sys.dont_write_bytecode = True
 
 import lib
-import proved_libraries
+import rattle
 import tap
 
 WALK = "crates/tiwalk/out/tiwalk"
@@ -33,7 +34,7 @@ NO_CHARACTER_OF_XML = re.compile("[^\t\n\x20-\ud7ff\ue000-\ufffd\U00010000-\U001
 def rt_ci():
     """What `rt ci` proves and runs. Its output is passed on, but for its last line."""
     suite, last = tap.Suite("rt ci"), ""
-    with subprocess.Popen([sys.executable, "ci/rt_ci.py"], stdout=subprocess.PIPE, text=True, errors="replace") as started:
+    with subprocess.Popen(["rt", "ci"], stdout=subprocess.PIPE, text=True, errors="replace") as started:
         for line in started.stdout:
             print(last, end="", flush=True)
             last = line
@@ -78,19 +79,23 @@ class Gate:
 
     def run_proved(self):
         """The libraries that `rt ci` has proved, and that for C, which is built first."""
-        for crate in (lib.CRATE, lib.TOP / "crates/tiwalk"):
-            proved_libraries.note(crate, lib.TOP)
         self.run("edits that the prover must refuse", "ci/edits.py")
-        self.run("what the compiler must refuse", "ci/must_not_compile.sh", program="sh")
+        self.run("what the compiler must refuse", "ci/must_not_compile.py")
         if not shutil.which(os.environ.get("CC", "cc")):
             self.add(tap.Suite("the library for C: there is no C compiler", skipped=1))
-        elif subprocess.run([sys.executable, "ci/lib.py", *([lib.ARCHIVE] if lib.ARCHIVE.is_file() else [])]).returncode:
-            self.add(tap.Suite("the library for C is not built", failed=1))
-        else:
-            self.run("C programs", "tests/c/run.py", lib.ARCHIVE)
+        elif archive := self.built_archive():
+            self.run("C programs", "tests/c/run.py", archive)
             self.run("as it is installed", "tests/install/run.py", "--gate")
-            self.run("schedules of the waiting layer", "tests/model/run.py", lib.ARCHIVE, "--gate")
+            self.run("schedules of the waiting layer", "tests/model/run.py", archive, "--gate")
         self.run("snippets", "ci/snippets.py")
+
+    def built_archive(self):
+        """The archive of the static library, once `dist/` is built over it, or None if either is not."""
+        archive = rattle.build_archive(lib.CRATE.name, jobs=2)
+        if archive and subprocess.run([sys.executable, "ci/lib.py", archive]).returncode == 0:
+            return archive
+        self.add(tap.Suite("the library for C is not built", failed=1))
+        return None
 
 
 def write_junit(suites, path):
