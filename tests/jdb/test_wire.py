@@ -154,6 +154,36 @@ class Malformed(unittest.TestCase):
             self.assertEqual(wire.status(thread)[1], 1)
 
 
+class ManyStops(unittest.TestCase):
+    """tables.lua, which sleeps in a function with ten tables of a hundred entries."""
+
+    def tables(self, wire, thread):
+        """The ids of the tables, and the entries of the last."""
+        wire.suspend(thread)
+        frame = wire.frames(thread)[1]
+        slots = [variable.slot for variable in wire.variables(frame.class_, frame.method) if variable.name in "abcdefghij"]
+        wanted = b"".join(struct.pack(">iB", slot, ord("L")) for slot in slots)
+        data = wire.ask(16, 1, ids(thread, frame.frame) + struct.pack(">i", len(slots)) + wanted)
+        values = data.all(data.items(lambda: (data.take(1), data.number(8))))
+        self.assertEqual([tag for tag, _ in values], [b"["] * 10)
+        return [number for _, number in values], wire.entries(values[-1][1])
+
+    def test_values_are_kept_until_a_resumption(self):
+        """Together they would have no room. An id of the stop before names nothing any more."""
+        with places.scripts("tables") as host, attach(host.port) as wire:
+            thread, before = wire.threads(1)["tables.lua"], []
+            while wire.status(thread)[0] != 2:
+                time.sleep(0.01)
+            for stop in range(100):
+                with self.subTest(stop=stop):
+                    tables, entries = self.tables(wire, thread)
+                    self.assertEqual(entries[:2], ["1 = 10001", "2 = 10002"])
+                    self.assertTrue(set(tables).isdisjoint(before))
+                    self.assertEqual({wire.error_of(13, 1, ids(number)) for number in before}, {INVALID_OBJECT} if stop else set())
+                    wire.resume(thread)
+                    before = tables
+
+
 def attach(port):
     """A debugger at this port. As long as the one before it is there, it is closed at once."""
     end = time.monotonic() + PATIENCE

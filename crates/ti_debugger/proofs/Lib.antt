@@ -13,3 +13,5 @@ pub mod LineLaws
 pub mod TellLaws
 pub mod TakeLaws
 pub mod VariableLaws
+pub mod KeptLaws
+pub mod NameLaws

@@ -82,35 +82,35 @@ named_left vs i names front total le some so_far =
 
 -- ---- values
 
-read_next : (kept : ℕ) (t : Told) (ts : List Told) (r : Reading) (next : Option Reading) → read_content kept t.slot t.content r ≡ next → read_all kept (t ∷ ts) r ≡ then_read (λ (r' : Reading). read_all kept ts r') next
+read_next : (given : ℕ) (t : Told) (ts : List Told) (r : Reading) (next : Option Reading) → read_content given t.slot t.content r ≡ next → read_all given (t ∷ ts) r ≡ then_read (λ (r' : Reading). read_all given ts r') next
 unfolding read_all
-read_next kept t ts r next is = ap (λ (o : Option Reading). then_read (λ (r' : Reading). read_all kept ts r') o) is
+read_next given t ts r next is = ap (λ (o : Option Reading). then_read (λ (r' : Reading). read_all given ts r') o) is
 
-pub read_more : (kept : ℕ) (ts : List Told) (i : ℕ) (d : Told) (r r' : Reading) (total : Option Reading) → i < length ts → read_content kept (get_or ts i d).slot (get_or ts i d).content r ≡ Some r'
-    → read_all kept (drop i ts) r ≡ total → read_all kept (drop (i + 1) ts) r' ≡ total
-read_more kept ts i d r r' total lt is so_far =
-    sym (read_next kept (get_or ts i d) (drop (i + 1) ts) r (Some r') is) ∙ sym (at_drop_more (λ (l : List Told). read_all kept l r) ts i d lt) ∙ so_far
+pub read_more : (given : ℕ) (ts : List Told) (i : ℕ) (d : Told) (r r' : Reading) (total : Option Reading) → i < length ts → read_content given (get_or ts i d).slot (get_or ts i d).content r ≡ Some r'
+    → read_all given (drop i ts) r ≡ total → read_all given (drop (i + 1) ts) r' ≡ total
+read_more given ts i d r r' total lt is so_far =
+    sym (read_next given (get_or ts i d) (drop (i + 1) ts) r (Some r') is) ∙ sym (at_drop_more (λ (l : List Told). read_all given l r) ts i d lt) ∙ so_far
 
-pub read_not : (kept : ℕ) (ts : List Told) (i : ℕ) (d : Told) (r start : Reading) → i < length ts → read_content kept (get_or ts i d).slot (get_or ts i d).content r ≡ None
-    → read_all kept (drop i ts) r ≡ read_all kept ts start → if_whole (read_all kept ts start) ≡ None
-read_not kept ts i d r start lt is so_far =
-    ap (λ (o : Option Reading). if_whole o) (sym so_far ∙ at_drop_more (λ (l : List Told). read_all kept l r) ts i d lt ∙ read_next kept (get_or ts i d) (drop (i + 1) ts) r None is)
+pub read_not : (given : ℕ) (ts : List Told) (i : ℕ) (d : Told) (r start : Reading) → i < length ts → read_content given (get_or ts i d).slot (get_or ts i d).content r ≡ None
+    → read_all given (drop i ts) r ≡ read_all given ts start → if_whole (read_all given ts start) ≡ None
+read_not given ts i d r start lt is so_far =
+    ap (λ (o : Option Reading). if_whole o) (sym so_far ∙ at_drop_more (λ (l : List Told). read_all given l r) ts i d lt ∙ read_next given (get_or ts i d) (drop (i + 1) ts) r None is)
 
-nothing_more : (kept : ℕ) (r : Reading) → read_all kept [] r ≡ Some r
+nothing_more : (given : ℕ) (r : Reading) → read_all given [] r ≡ Some r
 unfolding read_all
-nothing_more kept r = refl
+nothing_more given r = refl
 
-pub read_whole : (kept : ℕ) (ts : List Told) (i : ℕ) (r start : Reading) (b : Bool) → length ts ≤ i → is_whole r ≡ b → read_all kept (drop i ts) r ≡ read_all kept ts start → if_whole (read_all kept ts start) ≡ cond b (Some r) None
-read_whole kept ts i r start b le is so_far =
-    ap (λ (o : Option Reading). if_whole o) (sym so_far ∙ at_drop_all (λ (l : List Told). read_all kept l r) ts i le ∙ nothing_more kept r) ∙ ap (λ (c : Bool). cond c (Some r) None) is
+pub read_whole : (given : ℕ) (ts : List Told) (i : ℕ) (r start : Reading) (b : Bool) → length ts ≤ i → is_whole r ≡ b → read_all given (drop i ts) r ≡ read_all given ts start → if_whole (read_all given ts start) ≡ cond b (Some r) None
+read_whole given ts i r start b le is so_far =
+    ap (λ (o : Option Reading). if_whole o) (sym so_far ∙ at_drop_all (λ (l : List Told). read_all given l r) ts i le ∙ nothing_more given r) ∙ ap (λ (c : Bool). cond c (Some r) None) is
 
 pub whole_rest : (r : Reading) → is_whole r ≡ true → r.rest ≡ []
 whole_rest r whole = nil_from_length r.rest (eqb-true (length r.rest) 0 (and_parts (eqb r.left 0) (eqb (length r.rest) 0) whole).1)
 
 -- why a value was not read
-pub why : (kept slot : ℕ) (content : Content) (texts : List ℕ) (old new : Taken) (q : Result ℕ TellError) (e : TellError) (total : Option Reading) → Reads kept slot content texts old new q → q ≡ Err e
-    → (read_content kept slot content (reading_of old texts) ≡ None → total ≡ None) → (e ≡ error.OutOfMemory) ⊎ ((e ≡ error.IllegalArgument) × (total ≡ None))
-why kept slot content texts old new (Ok n) e total reads is then = absurd (cc is)
-why kept slot content texts old new (Err error.IllegalArgument) e total reads is then = inr (cc is, then reads)
-why kept slot content texts old new (Err error.OutOfMemory) e total reads is then = inl (cc is)
-why kept slot content texts old new (Err error.NotAsked) e total reads is then = absurd reads
+pub why : (given slot : ℕ) (content : Content) (texts : List ℕ) (old new : Taken) (q : Result ℕ TellError) (e : TellError) (total : Option Reading) → Reads given slot content texts old new q → q ≡ Err e
+    → (read_content given slot content (reading_of old texts) ≡ None → total ≡ None) → (e ≡ error.OutOfMemory) ⊎ ((e ≡ error.IllegalArgument) × (total ≡ None))
+why given slot content texts old new (Ok n) e total reads is then = absurd (cc is)
+why given slot content texts old new (Err error.IllegalArgument) e total reads is then = inr (cc is, then reads)
+why given slot content texts old new (Err error.OutOfMemory) e total reads is then = inl (cc is)
+why given slot content texts old new (Err error.NotAsked) e total reads is then = absurd reads

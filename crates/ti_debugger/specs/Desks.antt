@@ -18,6 +18,7 @@ debugger_of seat desk = record {
   tells = desk.tells;
   asked = desk.asked;
   objects = desk.objects.list.items;
+  numbers = desk.objects.numbers;
 }
 
 -- threads are met, watched and let go of, and no thread is resumed
@@ -37,4 +38,4 @@ pub record Works (old new : Desk) : Type 0 where
   pub about : new.about ≡ old.about
   pub starts : new.starts ≡ old.starts
   pub tells : new.tells ≡ old.tells
-  pub objects : new.objects ≡ old.objects
+  pub numbers : new.objects.numbers ≡ old.objects.numbers

@@ -7,6 +7,7 @@ pub mod Stacks
 pub mod Runs
 pub mod Seats
 pub mod Sessions
+pub mod Kept
 pub mod Debuggers
 pub mod Opening
 pub mod Refused

@@ -63,16 +63,16 @@ with_text r len = record r { objects = r.objects ++ object.Text (take len r.rest
 abbrev pub with_table : Reading → ℕ → Reading
 with_table r count = record r { objects = r.objects ++ object.Table count ∷ []; left = count }
 
--- A value comes where no entry is to come. A new object has the next number behind those that are kept.
+-- A value comes where no entry is to come. A new object has the next number behind those that were given.
 abbrev pub read_content : ℕ → ℕ → Content → Reading → Option Reading
-read_content kept slot content.Nil r = if r.left == 0 then Some (with_row r slot value.Nil) else None
-read_content kept slot (content.Boolean is) r = if r.left == 0 then Some (with_row r slot (value.Boolean is)) else None
-read_content kept slot (content.Integer number) r = if r.left == 0 then Some (with_row r slot (value.Integer number)) else None
-read_content kept slot (content.Number bits) r = if r.left == 0 then Some (with_row r slot (value.Number bits)) else None
-read_content kept slot (content.Text len) r =
-    if (r.left == 0) && nat_le len (length r.rest) then Some (with_row (with_text r len) slot (value.Text (kept + length r.objects))) else None
-read_content kept slot (content.Table count) r = if r.left == 0 then Some (with_row (with_table r count) slot (value.Table (kept + length r.objects))) else None
-read_content kept slot (content.Entry len) r =
+read_content given slot content.Nil r = if r.left == 0 then Some (with_row r slot value.Nil) else None
+read_content given slot (content.Boolean is) r = if r.left == 0 then Some (with_row r slot (value.Boolean is)) else None
+read_content given slot (content.Integer number) r = if r.left == 0 then Some (with_row r slot (value.Integer number)) else None
+read_content given slot (content.Number bits) r = if r.left == 0 then Some (with_row r slot (value.Number bits)) else None
+read_content given slot (content.Text len) r =
+    if (r.left == 0) && nat_le len (length r.rest) then Some (with_row (with_text r len) slot (value.Text (given + length r.objects))) else None
+read_content given slot (content.Table count) r = if r.left == 0 then Some (with_row (with_table r count) slot (value.Table (given + length r.objects))) else None
+read_content given slot (content.Entry len) r =
     if not (r.left == 0) && nat_le len (length r.rest) then Some (record (with_text r len) { left = r.left - 1 }) else None
 
 abbrev pub then_read : (Reading → Option Reading) → Option Reading → Option Reading
@@ -81,8 +81,8 @@ then_read f (Some r) = f r
 
 -- one value after the other
 unfoldable pub read_all : ℕ → List Told → Reading → Option Reading
-read_all kept [] r = Some r
-read_all kept (t ∷ ts) r = then_read (λ (r' : Reading). read_all kept ts r') (read_content kept t.slot t.content r)
+read_all given [] r = Some r
+read_all given (t ∷ ts) r = then_read (λ (r' : Reading). read_all given ts r') (read_content given t.slot t.content r)
 
 -- all of the texts are read, and each table has its entries
 abbrev pub is_whole : Reading → Bool
@@ -94,4 +94,4 @@ if_whole (Some r) = if is_whole r then Some r else None
 
 -- what an answer says, if it is laid out so
 abbrev pub read_answer : ℕ → List Told → List ℕ → Option Reading
-read_answer kept values texts = if_whole (read_all kept values (nothing_read texts))
+read_answer given values texts = if_whole (read_all given values (nothing_read texts))

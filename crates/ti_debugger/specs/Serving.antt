@@ -15,6 +15,7 @@ use Rattle.ti_debugger.specs.declared.stopping.Spot.{Spot}
 use Rattle.ti_debugger.specs.Crowds.{alive_in, any_awaited}
 use Rattle.ti_debugger.specs.Debuggers.{DebuggerValue}
 use Rattle.ti_debugger.specs.Desks.{debugger_of}
+use Rattle.ti_debugger.specs.Kept.{of_thread, without}
 use Rattle.ti_debugger.specs.Placing.{IsPlacedAs, StandsAs}
 use Rattle.ti_debugger.specs.Replies.{IsBodyOf}
 use Rattle.ti_debugger.specs.Stopping.{once_let_go, stopped_in}
@@ -50,13 +51,27 @@ pub record LetsGo (thread : ℕ) (old new : Desk) : Type 0 where
   pub stopped : stopped_in new.stops.halted.items ≡ stopped_in (map (once_let_go thread) old.stops.halted.items)
   pub grows : old.resumptions ≤ new.resumptions
 
--- What a session asks to be done at once: a thread is resumed, or one that stopped goes on.
+-- What was told of a thread is freed, and nothing else changes.
+pub record Forgets (thread : ℕ) (old new : Desk) : Type 0 where
+  pub rest : new ≡ record old { objects = record old.objects { list = new.objects.list } }
+  pub gone : of_thread thread new.objects.list.items ≡ []
+  pub kept : new.objects.list.items ≡ without thread old.objects.list.items
+
+-- A thread is let go of: what was told of it is freed, and then it is resumed.
+pub record Releases (thread : ℕ) (old new : Desk) : Type 0 where
+  pub freed : Desk
+  pub forgets : Forgets thread old freed
+  pub resumes : Resumes thread freed new
+  pub calls : CallsThreads freed new
+
+-- What a session asks to be done at once: a thread is resumed, or one that stopped goes on. What was told of a thread before it is
+-- resumed, or before it is suspended anew, is freed.
 abbrev pub Undertakes : Action → Desk → Desk → Type 0
-Undertakes (action.Resume thread) old new = Resumes thread old new × CallsThreads old new
+Undertakes (action.Resume thread) old new = Releases thread old new
 Undertakes (action.LetGo thread) old new = LetsGo thread old new
 Undertakes (action.Ask request) old new = new ≡ old
 Undertakes action.ListThreads old new = new ≡ old
-Undertakes (action.Suspend thread) old new = new ≡ old
+Undertakes (action.Suspend thread) old new = Forgets thread old new
 Undertakes action.Settle old new = new ≡ old
 Undertakes (action.SetBreakpoint class method index) old new = new ≡ old
 Undertakes (action.Locate thread) old new = new ≡ old

@@ -11,7 +11,7 @@ reading_of t rest = record { rows = t.rows.items; objects = t.objects.items; lef
 
 -- a value is read, of which so many bytes are used, or it stands where none may, or there is no memory or no room
 abbrev pub Reads : ℕ → ℕ → Content → List ℕ → Taken → Taken → Result ℕ TellError → Type 0
-Reads kept slot c texts old new (Ok used) = (used ≤ length texts) × (read_content kept slot c (reading_of old texts) ≡ Some (reading_of new (drop used texts)))
-Reads kept slot c texts old new (Err error.IllegalArgument) = read_content kept slot c (reading_of old texts) ≡ None
-Reads kept slot c texts old new (Err error.OutOfMemory) = ⊤
-Reads kept slot c texts old new (Err error.NotAsked) = ⊥
+Reads given slot c texts old new (Ok used) = (used ≤ length texts) × (read_content given slot c (reading_of old texts) ≡ Some (reading_of new (drop used texts)))
+Reads given slot c texts old new (Err error.IllegalArgument) = read_content given slot c (reading_of old texts) ≡ None
+Reads given slot c texts old new (Err error.OutOfMemory) = ⊤
+Reads given slot c texts old new (Err error.NotAsked) = ⊥

@@ -43,7 +43,7 @@ impl Debugger {
         ensures resumptions { result.resumptions ≡ 0 }
         ensures about { result.about ≡ about }
         ensures starts { result.starts ≡ false }
-        ensures variables { (result.tells ≡ false) × (result.asked ≡ Nothing) × (result.objects ≡ []) }
+        ensures variables { (result.tells ≡ false) × (result.asked ≡ Nothing) × (result.objects ≡ []) × (result.numbers ≡ 0) }
     {
         Debugger {
             seat: None,
@@ -128,6 +128,8 @@ impl Debugger {
     }
 
     /// What the caller does next with the connection. Requests are answered here, and while a question is open none is: nothing changes.
+    /// What was told of the values of a thread is freed when the debugger resumes it, and before it is suspended anew. Then its numbers
+    /// name nothing: no number names another text or table than before.
     ///
     /// - 112 WRONG_PHASE: no debugger is connected. Nothing changes.
     /// - 110 OUT_OF_MEMORY: there is no memory for a reply, an event, or what a request asks to be kept. What was done before stays
@@ -178,8 +180,8 @@ impl Debugger {
     pub fn closed(&mut self)
         ensures gone { (self.new.session ≡ None) × (self.new.due ≡ None) }
         ensures free { NoneHeld self.new.watched }
-        ensures variables { (self.new.asked ≡ Nothing) × (self.new.objects ≡ []) }
-        ensures desk { Works self.old (record self.new { objects = self.old.objects }) }
+        ensures variables { (self.new.asked ≡ Nothing) × (self.new.objects ≡ []) × (self.new.numbers ≡ 0) }
+        ensures desk { Works self.old (record self.new { objects = self.old.objects; numbers = self.old.numbers }) }
     {
         self.seat = None;
         self.desk.let_go_of_all();
@@ -195,7 +197,7 @@ impl Debugger {
         ensures resumptions { self.old.resumptions ≤ self.new.resumptions }
         ensures about { self.new.about ≡ self.old.about }
         ensures starts { self.new.starts ≡ self.old.starts }
-        ensures variables { (self.new.tells ≡ self.old.tells) × (self.new.asked ≡ self.old.asked) × (self.new.objects ≡ self.old.objects) }
+        ensures variables { (self.new.tells ≡ self.old.tells) × (self.new.asked ≡ self.old.asked) × (self.new.objects ≡ self.old.objects) × (self.new.numbers ≡ self.old.numbers) }
     {
         self.last_tick = now;
         self.desk.meet_if_due(now);

@@ -43,7 +43,7 @@ impl Desk {
         ensures resumptions { result.resumptions ≡ 0 }
         ensures about { result.about ≡ about }
         ensures starts { result.starts ≡ false }
-        ensures variables { (result.tells ≡ false) × (result.asked ≡ Nothing) × (result.objects.list.items ≡ []) }
+        ensures variables { (result.tells ≡ false) × (result.asked ≡ Nothing) × (result.objects.list.items ≡ []) × (result.objects.numbers ≡ 0) }
     {
         let mut agent = agent;
         let _it_can_be_had = agent.add_capabilities(Caps::CAN_SUSPEND);
@@ -69,11 +69,19 @@ impl Desk {
     /// Nothing is asked any more, and what was told of values is gone.
     pub(crate) fn forget_variables(&mut self)
         ensures asked { self.new.asked ≡ Nothing }
-        ensures objects { self.new.objects.list.items ≡ [] }
+        ensures objects { (self.new.objects.list.items ≡ []) × (self.new.objects.numbers ≡ 0) }
         ensures rest { self.new ≡ record self.old { asked = self.new.asked; objects = self.new.objects } }
     {
         self.asked = Asked::Nothing;
         self.objects = Objects::new(self.alloc);
+    }
+
+    /// Frees the texts and tables that were told of a thread. All others stay.
+    pub(crate) fn forget(&mut self, thread: u32)
+        ensures forgets { Forgets thread self.old self.new }
+        ensures rest { Works self.old self.new }
+    {
+        self.objects.forget(thread);
     }
 
     /// Disposes of the agent. The errors are those of `ServiceTries::dispose_now`. Then the threads are watched as before.
@@ -94,3 +102,5 @@ ghost use Rattle.std.specs.Prelude.{◌≡◌, [], false, IfOk, IfErr};
 ghost use Rattle.ti_debugger.specs.declared.asked.Asked.TheVariants.{Nothing};
 ghost use Rattle.ti_service.specs.Leaving.{Disposes, StaysOn};
 ghost use Rattle.ti_service.specs.Memberships.{state_of};
+ghost use Rattle.ti_debugger.specs.Desks.{Works};
+ghost use Rattle.ti_debugger.specs.Serving.{Forgets};

@@ -29,6 +29,7 @@ pub(crate) fn tend_stops(seat: &mut Option<Seat>, desk: &mut Desk)
     ensures due { due_in seat.new ≡ due_in seat.old }
     ensures rest { Works desk.old desk.new }
     ensures asked { desk.new.asked ≡ desk.old.asked }
+    ensures objects { desk.new.objects ≡ desk.old.objects }
 {
     if !desk.stops.are_any() {
         return;
@@ -48,6 +49,7 @@ fn tell_stop(seat: &mut Option<Seat>, desk: &mut Desk, index: usize)
     ensures due { due_in seat.new ≡ due_in seat.old }
     ensures rest { Works desk.old desk.new }
     ensures asked { desk.new.asked ≡ desk.old.asked }
+    ensures objects { desk.new.objects ≡ desk.old.objects }
 {
     let Some(halted) = desk.stops.halted.get(index) else {
         return;

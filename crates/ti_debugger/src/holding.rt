@@ -152,6 +152,15 @@ impl Desk {
         self.count_resumption(resumed);
     }
 
+    /// Lets go of a thread: what was told of it is freed, and it is resumed.
+    pub(crate) fn release(&mut self, thread: u32)
+        ensures releases { Releases thread self.old self.new }
+        ensures rest { Works self.old self.new }
+    {
+        self.forget(thread);
+        self.resume(thread);
+    }
+
     /// Counts a resumption, if it is one.
     fn count_resumption(&mut self, resumed: bool)
         ensures rest { self.new ≡ record self.old { resumptions = self.new.resumptions } }
@@ -217,4 +226,5 @@ ghost use Rattle.ti_debugger.specs.declared.hold.Hold.TheVariants.{Free, Owed};
 ghost use Rattle.ti_debugger.specs.Crowds.{NoneHeld, any_awaited, any_open};
 ghost use Rattle.ti_debugger.specs.Desks.{Works};
 ghost use Rattle.ti_debugger.specs.Holding.{IsPostedAs, PostsAs, is_let_go, is_open};
+ghost use Rattle.ti_debugger.specs.Serving.{Releases};
 ghost use Rattle.ti_debugger.specs.Suspending.{AreSettled, IsResumed, IsSuspendedAs, Resumes, Suspends};

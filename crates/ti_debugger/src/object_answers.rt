@@ -39,7 +39,7 @@ fn entries_of(alloc: Global, table: u32, part: Option<Part>) -> Result<Vec<u32>,
 }
 
 impl Desk {
-    /// The class of a text or a table (9/1). 20 INVALID_OBJECT if it was not told on this connection.
+    /// The class of a text or a table (9/1). 20 INVALID_OBJECT if it is not kept.
     pub(crate) fn class_of_object(&self, id: u64) -> Result<Vec<u8>, Refusal>
         ensures { IfOk result (λ v. TellsClass self.now.objects.list.items id v.items) }
     {
@@ -56,7 +56,7 @@ impl Desk {
         Err(Refusal::Error(JdwpError::InvalidObject))
     }
 
-    /// That a text or a table was not collected (9/9). 20 INVALID_OBJECT if it was not told on this connection.
+    /// That a text or a table was not collected (9/9). 20 INVALID_OBJECT if it is not kept.
     pub(crate) fn is_collected(&self, id: u64) -> Result<Vec<u8>, Refusal>
         ensures { IfOk result (λ v. v.items ≡ 0 ∷ []) }
     {
@@ -64,7 +64,7 @@ impl Desk {
         Ok(collected_body(self.alloc, false)?)
     }
 
-    /// The bytes of a text (10/1). 20 INVALID_OBJECT if it was not told on this connection.
+    /// The bytes of a text (10/1). 20 INVALID_OBJECT if it is not kept.
     pub(crate) fn text_value(&self, id: u64) -> Result<Vec<u8>, Refusal>
         ensures { IfOk result (λ v. TellsText self.now.objects.list.items id v.items) }
     {
@@ -77,7 +77,7 @@ impl Desk {
         }
     }
 
-    /// The number of a table, and how many entries it has. 20 INVALID_OBJECT if it was not told on this connection.
+    /// The number of a table, and how many entries it has. 20 INVALID_OBJECT if it is not kept.
     fn table_in(&self, id: u64) -> Result<(u32, u32), JdwpError>
         ensures { IfOk result (λ t. IsTable self.now.objects.list.items id t.0 t.1) }
     {

@@ -145,9 +145,12 @@ impl Seat {
         match action {
             Action::Ask(request) => self.due = Some(Due::Answer(request)),
             Action::ListThreads => self.due = Some(Due::List),
-            Action::Suspend(thread) => self.due = Some(Due::Post(thread)),
+            Action::Suspend(thread) => {
+                desk.forget(thread);
+                self.due = Some(Due::Post(thread));
+            }
             Action::Settle => self.due = Some(Due::Settle),
-            Action::Resume(thread) => desk.resume(thread),
+            Action::Resume(thread) => desk.release(thread),
             Action::SetBreakpoint {
                 class,
                 method,

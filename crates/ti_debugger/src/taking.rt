@@ -10,6 +10,9 @@ use ti_jdwp::Value;
 /// How many texts and tables are kept at most.
 pub(crate) const MOST: usize = 65_536;
 
+/// How many numbers they have.
+const NUMBERS: usize = 4_294_967_296;
+
 /// A variable with its name. The error is lack of memory.
 fn named_as(alloc: Global, variable: Variable, name: &[u8]) -> Result<Named, TellError>
     ensures ok { IfOk result (λ n. n ≡ named variable name.now) }
@@ -111,17 +114,17 @@ impl Taken {
         Ok(())
     }
 
-    /// Adds a text or a table, and gives its number, behind those that are kept. 110 if there is no memory or no room.
-    fn object(&mut self, kept: usize, object: Object) -> Result<u32, TellError>
-        ensures number { IfOk result (λ n. n ≡ kept + length self.old.objects.items) }
+    /// Adds a text or a table, and gives its number, behind those that were given. 110 if there is no memory, no room or no number.
+    fn object(&mut self, given: usize, object: Object) -> Result<u32, TellError>
+        ensures number { IfOk result (λ n. n ≡ given + length self.old.objects.items) }
         ensures objects { OnOk result (self.new.objects.items ≡ self.old.objects.items ++ object ∷ []) }
         ensures rest { OnOk result (self.new ≡ record self.old { objects = self.new.objects }) }
         ensures memory { IfErr result (λ e. e ≡ OutOfMemory) }
     {
-        if kept >= MOST || self.objects.len() >= MOST - kept {
+        if self.objects.len() >= MOST || given >= NUMBERS - self.objects.len() {
             return Err(TellError::OutOfMemory);
         }
-        let number = (kept + self.objects.len()) as u32;
+        let number = (given + self.objects.len()) as u32;
         self.objects.reserve(1)?;
         self.objects.push_reserved(object);
         Ok(number)
@@ -145,25 +148,25 @@ impl Taken {
     fn text(
         &mut self,
         alloc: Global,
-        kept: usize,
+        given: usize,
         slot: u32,
         texts: &[u8],
         count: usize,
     ) -> Result<usize, TellError>
-        ensures { Reads kept slot (Text count) texts.now self.old self.new result }
+        ensures { Reads given slot (Text count) texts.now self.old self.new result }
     {
         if self.left > 0 || count > texts.len() {
             return Err(TellError::IllegalArgument);
         }
         let text = Bytes::from_slice(alloc, &texts[..count])?;
-        let number = self.object(kept, Object::Text(text))?;
+        let number = self.object(given, Object::Text(text))?;
         self.row(slot, Value::Text(number))?;
         Ok(count)
     }
 
     /// Reads a table of so many entries, which are to come.
-    fn table(&mut self, kept: usize, slot: u32, count: usize) -> Result<usize, TellError>
-        ensures { (texts : List ℕ) → Reads kept slot (Table count) texts self.old self.new result }
+    fn table(&mut self, given: usize, slot: u32, count: usize) -> Result<usize, TellError>
+        ensures { (texts : List ℕ) → Reads given slot (Table count) texts self.old self.new result }
     {
         if self.left > 0 {
             return Err(TellError::IllegalArgument);
@@ -171,7 +174,7 @@ impl Taken {
         if count > MOST {
             return Err(TellError::OutOfMemory);
         }
-        let number = self.object(kept, Object::Table(count as u32))?;
+        let number = self.object(given, Object::Table(count as u32))?;
         self.row(slot, Value::Table(number))?;
         self.left = count;
         Ok(0)
@@ -181,17 +184,17 @@ impl Taken {
     fn entry(
         &mut self,
         alloc: Global,
-        kept: usize,
+        given: usize,
         texts: &[u8],
         count: usize,
     ) -> Result<usize, TellError>
-        ensures { (slot : ℕ) → Reads kept slot (Entry count) texts.now self.old self.new result }
+        ensures { (slot : ℕ) → Reads given slot (Entry count) texts.now self.old self.new result }
     {
         if self.left == 0 || count > texts.len() {
             return Err(TellError::IllegalArgument);
         }
         let text = Bytes::from_slice(alloc, &texts[..count])?;
-        let _its_place_is_known = self.object(kept, Object::Text(text))?;
+        let _its_place_is_known = self.object(given, Object::Text(text))?;
         self.left -= 1;
         Ok(count)
     }
@@ -203,48 +206,48 @@ impl Taken {
         self.left == 0 && rest.is_empty()
     }
 
-    /// Reads one value, whose texts come next, and gives how many bytes they have. So many texts and tables are kept.
+    /// Reads one value, whose texts come next, and gives how many bytes they have. So many numbers of texts and tables were given.
     ///
     /// - 103: entries are to come and this is none, or none is to come and this is one, or fewer bytes are there.
     /// - 110: there is no memory, or no room.
     fn take(
         &mut self,
         alloc: Global,
-        kept: usize,
+        given: usize,
         told: Told,
         texts: &[u8],
     ) -> Result<usize, TellError>
-        ensures { Reads kept told.slot told.content texts.now self.old self.new result }
+        ensures { Reads given told.slot told.content texts.now self.old self.new result }
     {
         match told.content {
             Content::Nil => self.plain(told.slot, Value::Nil),
             Content::Boolean(is) => self.plain(told.slot, Value::Boolean(is)),
             Content::Integer(number) => self.plain(told.slot, Value::Integer(number)),
             Content::Number(bits) => self.plain(told.slot, Value::Number(bits)),
-            Content::Text(count) => self.text(alloc, kept, told.slot, texts, count),
-            Content::Table(count) => self.table(kept, told.slot, count),
-            Content::Entry(count) => self.entry(alloc, kept, texts, count),
+            Content::Text(count) => self.text(alloc, given, told.slot, texts, count),
+            Content::Table(count) => self.table(given, told.slot, count),
+            Content::Entry(count) => self.entry(alloc, given, texts, count),
         }
     }
 }
 
-/// What an answer says, if so many texts and tables are kept.
+/// What an answer says, if so many numbers of texts and tables were given.
 ///
 /// - 103: it is not laid out as `Told` says.
 /// - 110: there is no memory, or no room.
 pub(crate) fn read_answer(
     alloc: Global,
-    kept: usize,
+    given: usize,
     values: &[Told],
     texts: &[u8],
 ) -> Result<Taken, TellError>
-    ensures ok { IfOk result (λ t. read_answer kept values.now texts.now ≡ Some (reading_of t [])) }
-    ensures refused { IfErr result (λ e. (e ≡ OutOfMemory) ⊎ ((e ≡ IllegalArgument) × (read_answer kept values.now texts.now ≡ None))) }
+    ensures ok { IfOk result (λ t. read_answer given values.now texts.now ≡ Some (reading_of t [])) }
+    ensures refused { IfErr result (λ e. (e ≡ OutOfMemory) ⊎ ((e ≡ IllegalArgument) × (read_answer given values.now texts.now ≡ None))) }
 {
     let mut taken = Taken::new(alloc);
     let mut rest = texts;
     for told in values {
-        let used = match taken.take(alloc, kept, *told, rest) {
+        let used = match taken.take(alloc, given, *told, rest) {
             Ok(used) => used,
             Err(error) => return Err(error),
         };

@@ -62,8 +62,8 @@ impl Debugger {
         Ok(())
     }
 
-    /// Answers a question for the values of a frame. Of two values of one slot the first counts. Texts and tables are kept until the
-    /// connection ends.
+    /// Answers a question for the values of a frame. Of two values of one slot the first counts. Texts and tables are kept until
+    /// the thread is resumed for the debugger, or the connection ends.
     ///
     /// - 112 WRONG_PHASE: no such question is open. Nothing changes.
     /// - 103 ILLEGAL_ARGUMENT: the lengths of texts and entries do not add up, an entry does not stand behind its table, or a table has
@@ -71,17 +71,18 @@ impl Debugger {
     /// - 110 OUT_OF_MEMORY: there is no memory, or more than 65,536 texts and tables, or 16 MiB of texts, would be kept. Nothing changes.
     pub fn tell_values(&mut self, values: &[Told], texts: &[u8]) -> Result<(), TellError>
         ensures told { OnOk result (TellsValuesOf values.now texts.now self.old self.new) }
+        ensures same { NamesBelow self.old.numbers self.old.objects self.new.objects }
         ensures refused { IfErr result (RefusesValues values.now texts.now self.old) }
         ensures kept { OnErr result (self.new ≡ self.old) }
-        ensures rest { self.new ≡ record self.old { asked = self.new.asked; objects = self.new.objects } }
+        ensures rest { self.new ≡ record self.old { asked = self.new.asked; objects = self.new.objects; numbers = self.new.numbers } }
     {
         let (thread, depth) = match self.desk.asked {
             Asked::Open(Question::Values { thread, depth }) => (thread, depth),
             _ => return Err(TellError::NotAsked),
         };
-        let kept = self.desk.objects.list.len();
-        let taken = read_answer(self.desk.alloc, kept, values, texts)?;
-        if !self.desk.objects.add(taken.objects, texts.len()) {
+        let given = self.desk.objects.numbers;
+        let taken = read_answer(self.desk.alloc, given, values, texts)?;
+        if !self.desk.objects.add(thread, taken.objects, texts.len()) {
             return Err(TellError::OutOfMemory);
         }
         self.desk.asked = Asked::Values {
@@ -110,6 +111,7 @@ impl Debugger {
 
 ghost use Rattle.std.specs.Prelude.{◌≡◌, ◌↔◌, None, true, IfErr, IsOk, OnErr, OnOk};
 ghost use Rattle.ti_types.specs.declared.error.TiError.TheVariants.{NotAvailable};
+ghost use Rattle.ti_debugger.specs.Kept.{NamesBelow};
 ghost use Rattle.ti_debugger.specs.Pops.{may_say_pops, with_pops};
 ghost use Rattle.ti_debugger.specs.Questions.{question_in};
 ghost use Rattle.ti_debugger.specs.VariableReplies.{RefusesThese, RefusesValues, TellsNone, TellsThese, TellsValuesOf};

@@ -7,5 +7,6 @@ loop-index-preserved c = record {
   told = λ log n. told_on log n n n _ _ _ (c.loop-index.invariant.told log n) (c.tell_stop.ensures.told log n);
   rest = search rules;
   asked = search rules;
+  objects = search rules;
   due = c.tell_stop.ensures.due ∙ c.loop-index.invariant.due;
 }

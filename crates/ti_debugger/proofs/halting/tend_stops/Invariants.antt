@@ -9,5 +9,6 @@ invariant-loop-index l = record {
   told : ToldOfLives (session_in l.fn.seat) (session_in l.seat);
   rest : Works l.fn.desk l.desk;
   asked : l.desk.asked ≡ l.fn.desk.asked;
+  objects : l.desk.objects ≡ l.fn.desk.objects;
   due : due_in l.seat ≡ due_in l.fn.seat;
 }
