@@ -36,7 +36,8 @@
  *
  * - A handle is zeros at first. From then on only this library reads or writes it, and nobody copies or moves it.
  * - A handle is used by one call at a time. It may go to another thread of the operating system, ordered by a lock, by the
- *   start or the join of a thread, or by a sequentially consistent atomic.
+ *   start or the join of a thread, or by a sequentially consistent atomic. So whoever holds what makes a thread stand still, such as
+ *   an interpreter's lock, may hand over for it, and the thread itself may come back by cq_back.
  * - No pointer is NULL, not even one to no frames. Each leads to memory of the size that is given, which no other argument
  *   of the call leads to.
  * - No function is called from a signal handler, or in the child of a fork from a process with threads.
@@ -90,7 +91,7 @@ extern "C" {
 
 /* The version of this header. */
 #define CQ_VERSION_MAJOR 2
-#define CQ_VERSION_MINOR 3
+#define CQ_VERSION_MINOR 4
 #define CQ_VERSION_PATCH 0
 
 /* The version of the library that the program runs with, as major * 1,000,000 + minor * 1,000 + patch. */
@@ -392,7 +393,7 @@ bool cq_poll_clear(cq_thread *thread);
  *
  *     if (__atomic_load_n(word, __ATOMIC_RELAXED) & mask) ..
  *
- * The word is read only by whoever runs the thread, and never written. It may be read until the thread is given back
+ * Any thread may read the word, by an atomic load, and none writes it. It may be read until the thread is given back
  * (cq_detach_thread), and stays where it is. Nothing is proved of what is found there: the library writes it whenever that
  * changes, in the same hold as it does what cq_poll_clear looks at. A look orders nothing.
  *
@@ -959,6 +960,9 @@ uint32_t cq_get_line_number_table(cq_env *env, uint32_t method, uint32_t *kind, 
  *         code = cq_wait_stop(&thread, &signal);
  *     }
  *
+ * A breakpoint anywhere makes cq_may_stop true everywhere. A runtime for which a look at each line is dear asks by cq_may_stop_in
+ * whether a thread may stop in the methods that it runs, again when cq_stops_version is another, and looks at no line where it may not.
+ *
  * A method is stopped in by its number (cq_define_class).
  */
 
@@ -966,6 +970,20 @@ uint32_t cq_get_line_number_table(cq_env *env, uint32_t method, uint32_t *kind, 
  * kind of stop when it looked. It may be true though none is, as after any thread or environment has come or gone: cq_reached tells.
  * False for a handle that is misused. */
 bool cq_may_stop(cq_thread *thread);
+
+/* A number that grows whenever something about stops changes, and also when a thread or an environment comes, goes or meets others. It
+ * takes no lock. 0 for a handle that is misused. Since 2.4. */
+uint64_t cq_stops_version(cq_thread *thread);
+
+/* Writes to `may` whether the thread may have to stop in one of `count` methods, from the number `first` on: an environment that is told
+ * of breakpoints at the thread has one there, or one is told of its single steps, or one is told of its frame pops and has asked for one.
+ * If it is false, no cq_reached and no cq_leaves in these methods stops the thread while cq_stops_version is what it was before the call.
+ *
+ *   CQ_FULL 216  threads and environments have come and gone, or threads have stopped, 2^62 - 1 times
+ *   CQ_BUSY 215  the list of threads is in use
+ *
+ * Since 2.4. */
+uint32_t cq_may_stop_in(cq_thread *thread, uint32_t first, uint32_t count, bool *may) CQ_MUST_USE;
 
 /* Says that the thread is at this location of this method, and writes to `stops` whether it has to stop there.
  *

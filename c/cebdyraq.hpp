@@ -190,7 +190,7 @@ struct line_table {
     std::vector<line_entry> entries;
 };
 
-/* Calls again as long as a class is just being defined. */
+/* Calls again as long as what it needs is in use. */
 template <class Call>
 void settle(Call call) {
     std::uint32_t got = call();
@@ -341,6 +341,12 @@ public:
     void end() { check(cq_wait_end(get(), signal())); }
 
     bool may_stop() const { return cq_may_stop(get()); }
+    std::uint64_t stops_version() const { return cq_stops_version(get()); }
+    bool may_stop_in(std::uint32_t first, std::uint32_t count) {
+        bool may = false;
+        settle([&] { return cq_may_stop_in(get(), first, count, &may); });
+        return may;
+    }
     bool reached(std::uint32_t method, std::uint32_t location) {
         bool stops = false;
         check(cq_wait_reached(get(), signal(), method, location, &stops));

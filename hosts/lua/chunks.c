@@ -7,6 +7,7 @@
 #include <string.h>
 
 #include "host.h"
+#include "stops.h"
 
 /* ------------------------------------------------------------------------------------------------------------------
  * What lua_dump tells.
@@ -47,14 +48,18 @@ void chunk_learn(lua_State *L) {
     struct dump dump = { 0 };
     struct protos protos = { 0 };
     lua_Debug ar;
-    if (!script_of(L)->inspected)
+    struct script *script = script_of(L);
+    uint32_t first;
+    if (!script->inspected)
         return;
     lua_pushvalue(L, -1);
     lua_getinfo(L, ">S", &ar);
-    if (read_top(L, &dump, &protos))
-        methods_define(source_of(&ar), &protos);
+    if (read_top(L, &dump, &protos) && methods_define(source_of(&ar), &protos, &first))
+        stops_meet(script, (struct methods){ first, (uint32_t)protos.count });
+    else
+        stops_meet_any(script);
     forget(&dump, &protos);
-    script_tell_classes(script_of(L), L);
+    script_tell_classes(script, L);
 }
 
 uint64_t chunk_code(lua_State *L) {
@@ -80,6 +85,8 @@ static int learn_first(lua_State *L, int results) {
     lua_getinfo(L, ">S", &ar);
     if (*ar.source == '@')
         chunk_learn(L);
+    else
+        stops_meet_any(script_of(L));
     lua_pop(L, 1);
     return results;
 }

@@ -375,5 +375,7 @@ void host_free(struct host *host) {
     close(host->ended);
     sem_destroy(&host->alive);
     sem_destroy(&host->listening);
+    for (size_t i = 0; i < host->count; i++)
+        free(host->scripts[i].met);
     free(host->scripts);
 }

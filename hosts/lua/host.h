@@ -23,6 +23,7 @@ enum {
     NEWEST = SHOWN - 1 - OLDEST,  /* and so many of the newest */
     FRAMES = SHOWN + 1,   /* with one besides, which says that the stack came late */
     KNOWN = 1024,         /* functions that a script knows without asking the table of methods; a power of two */
+    CALM = 64,            /* methods in which a script that looks at each line need not look; a power of two */
     CHAIN = 256           /* coroutines that resumed one another; Lua itself allows about 200 */
 };
 
@@ -30,6 +31,17 @@ enum {
 struct known {
     uintptr_t function;
     const struct method *method;
+};
+
+/* Methods with consecutive numbers. */
+struct methods {
+    uint32_t first, count;
+};
+
+/* A method in which the script did not have to stop, and the version of the stops by which that is so. */
+struct calm {
+    uint32_t method;
+    uint64_t version;
 };
 
 struct script {
@@ -42,6 +54,11 @@ struct script {
     pthread_mutex_t lock;     /* its thread has it, but where it stands; whoever has it may read its states */
     bool stands;              /* its thread waits, and leaves its states alone */
     bool stops;               /* its hook is called at each line */
+    uint64_t version;         /* of the stops, by which that is so; 0 if it has to be asked again */
+    struct methods *met;      /* in which an agent may want it to stop: of its chunks, and of functions that were seen in its stacks */
+    size_t met_count, met_room;
+    bool met_any;             /* each method may be one of them */
+    struct calm calm[CALM];
     bool complained;          /* a refusal was told */
     _Atomic(lua_State *) running;  /* the state or coroutine that a nudge reaches, or NULL */
     volatile bool nudged;     /* a nudge came, and no poll since */

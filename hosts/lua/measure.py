@@ -9,19 +9,27 @@ process, less what the agent took. On a machine with other work it says more tha
 With --deep the script runs at a depth of its own stack, in the last two ways. The table has the medians of the ratios
 of the time on processors.
 
+With --stops a debugger is attached, and has a breakpoint in another script, or in a function of the script that runs once.
+
 With --callgrind valgrind counts the instructions of the first two ways, which no other work changes. The table has the
 least of five runs, since Lua's hashes differ from run to run. With both, it counts what it takes to read the stack
 once.
 """
 import argparse
+import contextlib
 import os
 import pathlib
 import re
 import statistics
+import struct
 import subprocess
 import sys
 import tempfile
 import time
+
+sys.dont_write_bytecode = True
+
+import jdwp
 
 HERE = pathlib.Path(__file__).resolve().parent
 SCRIPTS = HERE / "scripts"
@@ -35,6 +43,10 @@ local function work() local s = 0 for i = 1, N do s = (s * 3 + i) % 11 end retur
 local function down(n) if n > 1 then return 1 + down(n - 1) end return 1 + work() end
 down(DEPTH)
 """
+BREAKPOINT, SUSPENDS_ALL = 2, 2
+# A line of rests.lua that is not reached, and for each script a function that runs once or twice, and a line of it.
+REST_LINE = 6
+COLD = {"nbody.lua": ("energy", 46), "fannkuch.lua": ("main", 64), "spectral_norm.lua": ("main", 49)}
 ASKED = {("attached", "without"): 1.02, ("sampled", "attached"): 1.03}
 
 
@@ -127,6 +139,39 @@ def count_deep():
             print(f"| {depth:,} | {times} | {count:,.0f} |", flush=True)
 
 
+def stopper(wire, script, method, line):
+    """Asks for a breakpoint at a line of a method."""
+    class_ = wire.classes()[f"L{script};"][0]
+    number = next(number for number, name in wire.methods(class_).items() if name == method)
+    wire.ask(15, 1, struct.pack(">BBi", BREAKPOINT, SUSPENDS_ALL, 1) + struct.pack(">BB", 7, 1) + jdwp.ids(class_, number, line))
+
+
+def time_with_debugger(name, place):
+    """The scripts' time on processors, beside a script that sleeps, while a debugger has a breakpoint at this place, or has none."""
+    words = [CQLUA, "run", "--debug", "127.0.0.1:0", "--suspend", "-e", f"N = {SIZES[name]}", name, "rests.lua"]
+    process = subprocess.Popen(words, cwd=SCRIPTS, stdout=subprocess.DEVNULL, stderr=subprocess.PIPE, text=True)
+    with jdwp.Wire(int(re.search(r":(\d+)\n", process.stderr.readline())[1])) as wire:
+        if place:
+            stopper(wire, *place)
+        with contextlib.suppress(jdwp.Closed):
+            while True:
+                wire.resume()
+                wire.read()
+    _, status, usage = os.wait4(process.pid, 0)
+    process.returncode = os.waitstatus_to_exitcode(status)
+    return usage.ru_utime + usage.ru_stime
+
+
+def measure_stops(rounds, names):
+    """A line for each script: its time with a debugger that has a breakpoint in another script, or in a function of its own that runs
+    once, beside the time with a debugger that has none."""
+    print("\n| script | no breakpoint, s | in another script | in a cold function of its own |\n|---|---|---|---|")
+    for name in names:
+        places = (None, ("rests", "rest", REST_LINE), (pathlib.Path(name).stem, *COLD[name]))
+        none, elsewhere, own = (min(time_with_debugger(name, place) for _ in range(rounds)) for place in places)
+        print(f"| {name} | {none:.2f} | {elsewhere / none:.2f} | {own / none:.2f} |", flush=True)
+
+
 def table(title, results, which):
     heads = ["script", "without, s"] + [f"{above} / {below}" for above, below in ASKED]
     print(f"\n{title}:\n\n| " + " | ".join(heads) + " |\n" + "|---" * len(heads) + "|")
@@ -139,10 +184,13 @@ def main():
     parser.add_argument("--rounds", type=int, default=30)
     parser.add_argument("--callgrind", action="store_true")
     parser.add_argument("--deep", action="store_true")
+    parser.add_argument("--stops", action="store_true")
     parser.add_argument("scripts", nargs="*", default=list(SIZES))
     options = parser.parse_args()
     if subprocess.run(["make", "-s", "-C", str(HERE)]).returncode:
         sys.exit(1)
+    if options.stops:
+        return measure_stops(options.rounds, [name for name in options.scripts if name in COLD])
     if options.deep:
         return count_deep() if options.callgrind else measure_deep(options.rounds)
     if options.callgrind:

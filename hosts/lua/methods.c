@@ -272,22 +272,26 @@ static void fill(struct method *m, const struct proto *proto) {
     m->local_count = proto->local_count;
 }
 
-static void define_chunk(const char *source, const struct protos *protos) {
+/* The main function of a chunk, whose methods follow it. NULL when there is no memory. */
+static const struct method *define_chunk(const char *source, const struct protos *protos) {
     const struct proto *chunk = protos->at;
     const struct method *known = look_up(&(struct function){ source, chunk->line, chunk->last, "", chunk->code });
     if (known && known->code)
-        return;
+        return known;
     struct class class = begin(signature_of_source(source), source, protos->count);
     for (size_t i = 0; i < protos->count && class.methods; i++)
         fill(&class.methods[i], &protos->at[i]);
     class.protos = protos->at;
-    finish(&class);
+    return finish(&class) ? class.methods : NULL;
 }
 
-void methods_define(const char *source, const struct protos *protos) {
+bool methods_define(const char *source, const struct protos *protos, uint32_t *first) {
     pthread_mutex_lock(&lock);
-    define_chunk(source, protos);
+    const struct method *main = define_chunk(source, protos);
+    if (main)
+        *first = main->number;
     pthread_mutex_unlock(&lock);
+    return main;
 }
 
 const struct method *methods_get(uint32_t number) {

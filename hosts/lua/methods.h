@@ -38,8 +38,8 @@ int methods_make(cq_service *service);
 void methods_end(void);
 
 /* Defines the class of a chunk, with a method for each of its functions, unless the same functions of this source are
- * there. When there is no memory, each will be a class of its own. */
-void methods_define(const char *source, const struct protos *protos);
+ * there. Writes the number of the first of them, which the others follow. False when there is no memory: each will be a class of its own. */
+bool methods_define(const char *source, const struct protos *protos, uint32_t *first);
 
 /* A function that was seen in a stack. */
 struct function {

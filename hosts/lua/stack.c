@@ -9,6 +9,7 @@
 #include "chunks.h"
 #include "host.h"
 #include "links.h"
+#include "stops.h"
 
 const char *source_of(const lua_Debug *ar) {
     if (*ar->what == 'C')
@@ -43,6 +44,8 @@ uint32_t stack_method(struct script *script, lua_State *L, lua_Debug *ar) {
         if (!m)
             return METHOD_UNKNOWN;
         *k = (struct known){ function, m };
+        if (!native)
+            stops_meet(script, (struct methods){ m->number, 1 });
     }
     return k->method->number;
 }

@@ -17,7 +17,7 @@ sys.path.append(str(HERE.parent.parent / "ci"))
 import tap
 
 MODULES = ("tests_run", "tests_prof", "tests_late", "tests_deep", "tests_end", "tests_debug", "tests_serve", "tests_attach",
-           "tests_classes", "tests_variables", "tests_build")
+           "tests_classes", "tests_stops", "tests_variables", "tests_build")
 
 
 def main():

@@ -79,13 +79,15 @@ class Debugger:
         return stack
 
 
-class Classes(WithFolder):
+class Debugged(WithFolder):
     @contextlib.contextmanager
     def debugged(self, *scripts):
         """A debugger at these scripts of the folder, which is the current one."""
         with self.served("run", "--debug", "127.0.0.1:0", *scripts, where=self.folder) as (_, line), attach(line) as wire:
             yield Debugger(wire)
 
+
+class Classes(Debugged):
     def test_classes_have_all_functions(self):
         """They are named by the source, also in a chunk with many constants. The statement is a chunk too."""
         self.script("shapes.lua", SHAPES + SLEEPER)

@@ -72,6 +72,13 @@ static void check_no_next(cq_env *by) {
     SAME(stop.thread + stop.method + (uint64_t)stop.location + stop.why, 36);
 }
 
+/* Whether the thread may have to stop in one of so many methods. */
+static bool may_stop_in(cq_thread *thread, uint32_t method, uint32_t count) {
+    bool may = false;
+    OK(cq_may_stop_in(thread, method, count, &may));
+    return may;
+}
+
 static void enable(cq_env *by, uint32_t kind, uint32_t thread) {
     OK(cq_set_stop_notification_mode(by, true, kind, thread));
 }
@@ -202,6 +209,65 @@ static void check_pops(void) {
 }
 
 /* What an environment wants ends with it, and is none of the next one's. */
+/* A thread may stop in the methods that have a breakpoint of somebody who is told at this thread, and anywhere for a step or a pop. */
+static void check_where(void) {
+    begin();
+    OK(cq_set_breakpoint(&env, LINES, 7));
+    CHECK(!may_stop_in(&first, 0, UINT32_MAX));
+    enable(&env, CQ_BREAKPOINT, 0);
+    CHECK(may_stop_in(&first, LINES, 1));
+    CHECK(may_stop_in(&first, 0, UINT32_MAX));
+    CHECK(may_stop_in(&first, TABLE, 2));
+    CHECK(!may_stop_in(&first, LINES, 0));
+    CHECK(!may_stop_in(&first, TABLE, 1));
+    CHECK(!may_stop_in(&first, NATIVE, UINT32_MAX));
+    CHECK(!may_stop_in(&first, UINT32_MAX, UINT32_MAX));
+    CHECK(!may_stop_in(&second, 0, UINT32_MAX));
+    disable(&env, CQ_BREAKPOINT, 0);
+    enable(&other, CQ_BREAKPOINT, CQ_ALL_THREADS);
+    CHECK(!may_stop_in(&first, 0, UINT32_MAX));
+    enable(&other, CQ_SINGLE_STEP, 1);
+    CHECK(!may_stop_in(&first, 0, UINT32_MAX));
+    CHECK(may_stop_in(&second, NATIVE, 1));
+    disable(&other, CQ_SINGLE_STEP, 1);
+    enable(&other, CQ_FRAME_POP, CQ_ALL_THREADS);
+    CHECK(!may_stop_in(&first, 0, UINT32_MAX));
+    OK(cq_start(&first));
+    OK(cq_enter(&first, TABLE));
+    OK(cq_notify_frame_pop(&other, 0, 1));
+    CHECK(may_stop_in(&first, NATIVE, 1));
+    CHECK(!may_stop_in(&second, 0, UINT32_MAX));
+    OK(cq_end(&first));
+    finish();
+}
+
+/* The version is another after each change, and after no question. */
+static void check_version(void) {
+    begin();
+    uint64_t version = cq_stops_version(&first);
+    CHECK(version > 0);
+    CHECK(!may_stop_in(&first, 0, UINT32_MAX));
+    CHECK(!stops_at(&first, TABLE, 4));
+    SAME(cq_stops_version(&first), version);
+    SAME(cq_stops_version(&second), version);
+    OK(cq_set_breakpoint(&env, TABLE, 4));
+    CHECK(cq_stops_version(&first) > version);
+    version = cq_stops_version(&first);
+    SAME(cq_set_breakpoint(&env, TABLE, 4), CQ_DUPLICATE);
+    SAME(cq_stops_version(&first), version);
+    enable(&env, CQ_BREAKPOINT, CQ_ALL_THREADS);
+    CHECK(cq_stops_version(&second) > version);
+    version = cq_stops_version(&first);
+    CHECK(stops_at(&first, TABLE, 4));
+    CHECK(cq_stops_version(&first) > version);
+    version = cq_stops_version(&first);
+    check_next(&env, 0, TABLE, 4, CQ_STOP_BREAKPOINT);
+    OK(cq_end_stop(&env, 0));
+    OK(cq_clear_breakpoint(&env, TABLE, 4));
+    CHECK(cq_stops_version(&first) > version);
+    finish();
+}
+
 static void check_ends(void) {
     begin();
     OK(cq_set_breakpoint(&env, TABLE, 4));
@@ -243,6 +309,8 @@ static void check_wrong(void) {
     cq_stop stop = { 9, 9, 9, 9 };
     bool stops = true;
     CHECK(!cq_may_stop(&no_thread));
+    SAME(cq_stops_version(&no_thread), 0);
+    SAME(cq_may_stop_in(&no_thread, 0, UINT32_MAX, &stops), CQ_MISUSED);
     SAME(cq_reached(&no_thread, TABLE, 4, &stops), CQ_MISUSED);
     SAME(cq_leaves(&no_thread, TABLE, 4, 1, &stops), CQ_MISUSED);
     SAME(cq_is_stopped(&no_thread, &stops), CQ_MISUSED);
@@ -296,6 +364,8 @@ int main(void) {
     check_two();
     check_steps();
     check_pops();
+    check_where();
+    check_version();
     check_ends();
     check_given_back();
     check_wrong();

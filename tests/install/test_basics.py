@@ -15,7 +15,7 @@ FILES = {
 }
 PROGRAMS = {
     "bin/tiwalk": "crates/tiwalk/out/tiwalk", "bin/tilint": "crates/tilint/out/tilint", "bin/tiprof": "crates/tiprof/out/tiprof",
-    "bin/cqlua": "hosts/lua/out/cqlua",
+    "bin/cqlua": "hosts/lua/out/cqlua", "bin/cq-dap": "tools/dap/out/cq-dap",
 }
 SHOWN = "method 4 at -1\nmethod 3 at 17\n"
 
@@ -87,7 +87,7 @@ class Versions(unittest.TestCase):
         self.assertRegex(self.answer(f"-I{versioned('PATCH', header.version()[2] + 1)}"), " fits")
 
     def test_newest_entry_of_the_changelog(self):
-        first = re.search(r"^## (\S+)", (TOP / "CHANGELOG.md").read_text(), re.M)
+        first = re.search(r"^## (\d\S*)", (TOP / "CHANGELOG.md").read_text(), re.M)
         self.assertEqual(first[1], VERSION)
 
     @wants("readelf")

@@ -18,7 +18,7 @@ PACKAGES = {
         "libdevel", f"libcebdyraq2 (= {VERSION}-1), libc6-dev", "threads of a runtime, inspected by agents (headers)",
         ("usr/include/*", f"{MULTIARCH}/libcebdyraq.a", f"{MULTIARCH}/libcebdyraq.so", f"{MULTIARCH}/pkgconfig/*", "usr/share/man/man3/*", "usr/share/cebdyraq/*"),
     ),
-    "cebdyraq": ("devel", "libc6 (>= 2.34)", "walks and profiles of inspected threads", ("usr/bin/*",)),
+    "cebdyraq": ("devel", "libc6 (>= 2.34), python3", "walks and profiles of inspected threads", ("usr/bin/*",)),
 }
 CONTROL = """Package: {name}
 Version: {version}-1
@@ -63,7 +63,8 @@ def fill(name, stage):
         compress(page.with_name(page.name + ".gz"), page.read_text())
         page.unlink()
     for path in (*folder.glob("usr/bin/*"), *folder.glob(f"{MULTIARCH}/libcebdyraq.so.*.*")):
-        run("strip", "--strip-unneeded", "--remove-section=.comment", "--remove-section=.note", path)
+        if path.read_bytes().startswith(b"\x7fELF"):
+            run("strip", "--strip-unneeded", "--remove-section=.comment", "--remove-section=.note", path)
     for path in folder.glob(f"{MULTIARCH}/*.a"):
         run("strip", "--strip-debug", "--remove-section=.comment", "--enable-deterministic-archives", path)
     return folder

@@ -6,7 +6,7 @@ from typing import Any, Dict, List, Tuple
 
 from ._types import AT, BOOL, DOUBLE, I32, I64, INT, NUMBER, SIZE, TEXT, U32, U64, WORD
 
-VERSION = (2, 3)
+VERSION = (2, 4)
 
 ALL_THREADS = 4294967295
 DOOR_CONNECTIONS = 16
@@ -383,6 +383,8 @@ FUNCTIONS: Dict[str, Tuple[Any, List[Any]]] = {
     "cq_is_method_native": (U32, [AT, NUMBER, AT]),
     "cq_get_line_number_table": (U32, [AT, NUMBER, AT, AT, SIZE, AT]),
     "cq_may_stop": (BOOL, [AT]),
+    "cq_stops_version": (U64, [AT]),
+    "cq_may_stop_in": (U32, [AT, NUMBER, NUMBER, AT]),
     "cq_reached": (U32, [AT, NUMBER, NUMBER, AT]),
     "cq_leaves": (U32, [AT, NUMBER, NUMBER, NUMBER, AT]),
     "cq_is_stopped": (U32, [AT, AT]),

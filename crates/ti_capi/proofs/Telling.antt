@@ -74,5 +74,5 @@ module _ (values : List CqValue) (texts : List ℕ) where
   were_told told (Debugger d) (Debugger n) (Ok u) are (says, is) = (told, are, says, is)
   were_told told (Debugger d) (Debugger n) (Err NotAsked) are says = says
   were_told told (Debugger d) (Debugger n) (Err IllegalArgument) are (says, is) =
-      ((λ other others. subst (λ (l : List Told). read_answer (length d.objects) l texts ≡ None) (all_same values told other are others) says), is)
+      ((λ other others. subst (λ (l : List Told). read_answer d.numbers l texts ≡ None) (all_same values told other are others) says), is)
   were_told told (Debugger d) (Debugger n) (Err OutOfMemory) are (says, is) = is

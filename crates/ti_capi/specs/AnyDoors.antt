@@ -136,14 +136,14 @@ Writes connection count now _ _ = ⊥
 -- The connection is gone. What a debugger suspended is resumed, or will be
 abbrev pub Disconnects : ℕ → AnyDoor → AnyDoor → Type 0
 Disconnects connection (any.Http d) (any.Http n) = http.Closes d n connection
-Disconnects connection (any.Debugger d) (any.Debugger n) = (is_some (session_at connection d) ≡ true) × (n.session ≡ None) × (n.due ≡ None) × NoneHeld n.watched × (n.asked ≡ asked.Nothing) × (n.objects ≡ []) × Works d (record n { objects = d.objects })
+Disconnects connection (any.Debugger d) (any.Debugger n) = (is_some (session_at connection d) ≡ true) × (n.session ≡ None) × (n.due ≡ None) × NoneHeld n.watched × (n.asked ≡ asked.Nothing) × (n.objects ≡ []) × (n.numbers ≡ 0) × Works d (record n { objects = d.objects; numbers = d.numbers })
 Disconnects connection _ _ = ⊥
 
 -- Each connection goes on, and none opens or closes. A debugger's session is told of events alone
 abbrev pub Ticks : AnyDoor → AnyDoor → Type 0
 Ticks (any.Http d) (any.Http n) = http.AllRun d n × http.IsTicked d n
 Ticks (any.Debugger d) (any.Debugger n) =
-    ToldBy (classes_of n.agent) d.next_class n.next_class d.session n.session × (n.due ≡ d.due) × (d.resumptions ≤ n.resumptions) × (n.about ≡ d.about) × (n.starts ≡ d.starts) × (n.tells ≡ d.tells) × (n.asked ≡ d.asked) × (n.objects ≡ d.objects)
+    ToldBy (classes_of n.agent) d.next_class n.next_class d.session n.session × (n.due ≡ d.due) × (d.resumptions ≤ n.resumptions) × (n.about ≡ d.about) × (n.starts ≡ d.starts) × (n.tells ≡ d.tells) × (n.asked ≡ d.asked) × (n.objects ≡ d.objects) × (n.numbers ≡ d.numbers)
 Ticks _ _ = ⊥
 
 -- A door for debuggers ends only if no debugger is connected, and no suspension is out or to be undone

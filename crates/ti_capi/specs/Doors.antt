@@ -173,7 +173,7 @@ pub record TellsAbout (name path version : List ℕ) (a : About) : Type 0 where
 -- No debugger is connected, none has suspended a thread, and this is what debuggers are told of the program. The runtime waits for no
 -- debugger and tells no variables, no question is open, and no text or table is kept
 abbrev pub Awaits : List ℕ → List ℕ → List ℕ → Option AnyDoor → Type 0
-Awaits name path version (Some (Debugger d)) = (d.session ≡ None) × NoneHeld d.watched × TellsAbout name path version d.about × (d.starts ≡ false) × (d.tells ≡ false) × (d.asked ≡ asked.Nothing) × (d.objects ≡ [])
+Awaits name path version (Some (Debugger d)) = (d.session ≡ None) × NoneHeld d.watched × TellsAbout name path version d.about × (d.starts ≡ false) × (d.tells ≡ false) × (d.asked ≡ asked.Nothing) × (d.objects ≡ []) × (d.numbers ≡ 0)
 Awaits name path version (Some (Http d)) = ⊥
 Awaits name path version None = ⊥
 

@@ -1,5 +1,5 @@
 -- Questions of a door for debuggers, and their answers, as C uses them.
-use Rattle.std.specs.Prelude.{ℕ, ◌≡◌, ◌==◌, ⊤, length, true, false, Bool, All, List, [], ◌∷◌, Option, None, Some, Result, Ok, Err, if◌then◌else◌}
+use Rattle.std.specs.Prelude.{ℕ, ◌≡◌, ◌==◌, ⊤, true, false, Bool, All, List, [], ◌∷◌, Option, None, Some, Result, Ok, Err, if◌then◌else◌}
 use Rattle.std.specs.Int.{w64, cast_signed}
 use Rattle.std.specs.List.{AllZip}
 use Rattle.ti_jdwp.specs.declared.error.JdwpError.{JdwpError}
@@ -113,15 +113,15 @@ TellsVariables variables names (any.Http d) n r = AsksNothing (any.Http d) n r
 TellsVariables variables names _ _ _ = ⊥
 
 abbrev pub TellsTold : List Told → List ℕ → AnyDoor → AnyDoor → Result ⊤ TellError → Type 0
-TellsTold values texts (any.Debugger d) (any.Debugger n) (Ok u) = debugger.TellsValuesOf values texts d n × (n ≡ record d { asked = n.asked; objects = n.objects })
+TellsTold values texts (any.Debugger d) (any.Debugger n) (Ok u) = debugger.TellsValuesOf values texts d n × (n ≡ record d { asked = n.asked; objects = n.objects; numbers = n.numbers })
 TellsTold values texts (any.Debugger d) (any.Debugger n) (Err e) = debugger.RefusesValues values texts d e × (n ≡ d)
 TellsTold values texts (any.Http d) n r = AsksNothing (any.Http d) n r
 TellsTold values texts _ _ _ = ⊥
 
 abbrev pub TellsValues : List CqValue → List ℕ → AnyDoor → AnyDoor → Result ⊤ TellError → Type 0
-TellsValues values texts (any.Debugger d) (any.Debugger n) (Ok u) = (told : List Told) × AreTold values told × debugger.TellsValuesOf told texts d n × (n ≡ record d { asked = n.asked; objects = n.objects })
+TellsValues values texts (any.Debugger d) (any.Debugger n) (Ok u) = (told : List Told) × AreTold values told × debugger.TellsValuesOf told texts d n × (n ≡ record d { asked = n.asked; objects = n.objects; numbers = n.numbers })
 TellsValues values texts (any.Debugger d) (any.Debugger n) (Err error.NotAsked) = (debugger.asks_values (question_in d.asked) ≡ false) × (n ≡ d)
-TellsValues values texts (any.Debugger d) (any.Debugger n) (Err error.IllegalArgument) = ((told : List Told) → AreTold values told → read_answer (length d.objects) told texts ≡ None) × (n ≡ d)
+TellsValues values texts (any.Debugger d) (any.Debugger n) (Err error.IllegalArgument) = ((told : List Told) → AreTold values told → read_answer d.numbers told texts ≡ None) × (n ≡ d)
 TellsValues values texts (any.Debugger d) (any.Debugger n) (Err error.OutOfMemory) = n ≡ d
 TellsValues values texts (any.Http d) n r = AsksNothing (any.Http d) n r
 TellsValues values texts _ _ _ = ⊥

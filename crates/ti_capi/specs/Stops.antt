@@ -14,7 +14,7 @@ use Rattle.ti_stops.specs.declared.kind.StopKind.TheVariants as kind
 use Rattle.ti_stops.specs.declared.stop.Stop.{Stop}
 use Rattle.ti_stops.specs.Errors.{number_of as stop_number_of}
 use Rattle.ti_service.specs.Memberships.{AgentValue}
-use Rattle.ti_service.specs.Service.{Member}
+use Rattle.ti_service.specs.Service.{Member, TellsCount}
 use Rattle.ti_service.specs.Stops.{AgentCalls, AgentRefuses, Breaks, BreaksNot, Calls, RefusesCall, TellsWatch}
 use Rattle.ti_thread.specs.AnyThread.{number_in}
 use Rattle.ti_thread.specs.declared.host_thread.HostThread.{HostThread}
@@ -74,16 +74,17 @@ pub data NextStopBy (x0 x1 : CqStop) (s n : AgentValue) (code : ℕ) : Type 0 wh
   NoStop : code ≡ none_told → AgentCalls s n call.Next (Told None) → x1 ≡ x0 → NextStopBy x0 x1 s n code
   StopUntold : (e : StopError) → code ≡ stop_number_of e → AgentRefuses s n call.Next e → x1 ≡ x0 → NextStopBy x0 x1 s n code
 
--- what a thread reached, as a call
+-- what a thread reached or may reach, as a call
 abbrev pub call_of : Reach → ThreadNo → StopCall
 call_of (reach.At f) t = call.Reached t f
 call_of (reach.Leaving f n) t = call.Leaves t f n
 call_of reach.Waiting t = call.IsStopped t
+call_of (reach.Within m n) t = call.MayStopIn t m n
 
 abbrev pub says : Bool → StopReply → Type 0
 says b r = (r ≡ Stops b) ⊎ (r ≡ Waits b)
 
--- the runtime is told whether the thread has to wait, or why it is not told
+-- the runtime is told whether the thread has to wait, or may have to, or why it is not told
 pub data ReachesFor (c : StopCall) (b0 b1 : Bool) (m n : Member) (code : ℕ) : Type 0 where
   ReachTold : (r : StopReply) → code ≡ 0 → n.cell ≡ m.cell → Calls m.view n.view c r → says b1 r → ReachesFor c b0 b1 m n code
   ReachUntold : (e : StopError) → code ≡ stop_number_of e → RefusesCall m n c e → b1 ≡ b0 → ReachesFor c b0 b1 m n code
@@ -103,10 +104,17 @@ ReachesBehind (Some h) None w b0 b1 old new code = ⊥
 ReachesBehind None n w b0 b1 old new code = (new ≡ old) × (code ≡ misused) × (b1 ≡ b0)
 
 -- one look at what the service's handle beside a thread has seen
-abbrev pub MayStopTo : HeldThread → HeldThread → Bool → Type 0
-MayStopTo old new may = (new ≡ with_own_service old new.service) × TellsWatch old.service new.service may
+abbrev pub LooksTo : {X : Type 0} → (Member → Member → X → Type 0) → HeldThread → HeldThread → X → Type 0
+LooksTo tells old new x = (new ≡ with_own_service old new.service) × tells old.service new.service x
+
+-- the same behind a handle: if it is empty or of another kind, nothing changes, and this is told
+abbrev pub LooksBehind : {X : Type 0} → X → (Member → Member → X → Type 0) → Option HeldThread → Option HeldThread → Handle → Handle → X → Type 0
+LooksBehind otherwise tells (Some h) (Some n) old new x = (new ≡ with_held_thread old n) × LooksTo tells h n x
+LooksBehind otherwise tells (Some h) None old new x = ⊥
+LooksBehind otherwise tells None n old new x = (new ≡ old) × (x ≡ otherwise)
 
 abbrev pub MayStopBehind : Option HeldThread → Option HeldThread → Handle → Handle → Bool → Type 0
-MayStopBehind (Some h) (Some n) old new may = (new ≡ with_held_thread old n) × MayStopTo h n may
-MayStopBehind (Some h) None old new may = ⊥
-MayStopBehind None n old new may = (new ≡ old) × (may ≡ false)
+MayStopBehind h n old new may = LooksBehind false TellsWatch h n old new may
+
+abbrev pub VersionBehind : Option HeldThread → Option HeldThread → Handle → Handle → ℕ → Type 0
+VersionBehind h n old new version = LooksBehind 0 TellsCount h n old new version

@@ -5,7 +5,7 @@ use crate::handle::CqThread;
 use ti_service::{StopCall, StopReply};
 use ti_types::{Frame, MethodNo, Place, ThreadNo};
 
-/// What a thread reached.
+/// What a thread reached, or may reach.
 #[derive(Clone, Copy)]
 pub enum Reach {
     /// A location.
@@ -14,6 +14,8 @@ pub enum Reach {
     Leaving(Frame, u32),
     /// Nothing: it waits at a stop.
     Waiting,
+    /// One of so many methods, from this one on, at some time.
+    Within(MethodNo, u32),
 }
 
 impl Reach {
@@ -25,6 +27,7 @@ impl Reach {
             Reach::At(frame) => StopCall::Reached(thread, frame),
             Reach::Leaving(frame, frames) => StopCall::Leaves(thread, frame, frames),
             Reach::Waiting => StopCall::IsStopped(thread),
+            Reach::Within(first, count) => StopCall::MayStopIn(thread, first, count),
         }
     }
 }
@@ -39,7 +42,7 @@ fn place(method: u32, location: u32) -> Frame
     }
 }
 
-/// Says what the thread reached, and tells whether it has to wait.
+/// Says what the thread reached, and tells whether it has to wait, or may have to.
 fn tell(thread: &mut CqThread, what: Reach, stops: &mut bool) -> u32
     ensures { ReachesBehind (thread_in thread.old) (thread_in thread.new) what stops.old stops.new thread.old thread.new result }
 {
@@ -73,6 +76,30 @@ pub extern "C" fn cq_may_stop(thread: &mut CqThread) -> bool
         return false;
     };
     held.service.may_stop()
+}
+
+/// A number that grows with each change about stops, and with each thread and environment that comes or goes.
+#[unsafe(no_mangle)]
+pub extern "C" fn cq_stops_version(thread: &mut CqThread) -> u64
+    ensures { VersionBehind (thread_in thread.old) (thread_in thread.new) thread.old thread.new result }
+{
+    let Some(held) = thread.held_thread() else {
+        return 0;
+    };
+    held.service.happened()
+}
+
+/// Whether a thread may have to stop in one of so many methods.
+#[unsafe(no_mangle)]
+pub extern "C" fn cq_may_stop_in(
+    thread: &mut CqThread,
+    first: u32,
+    count: u32,
+    may: &mut bool,
+) -> u32
+    ensures { ReachesBehind (thread_in thread.old) (thread_in thread.new) (reach.Within (method_no first) count) may.old may.new thread.old thread.new result }
+{
+    tell(thread, Reach::Within(MethodNo(first), count), may)
 }
 
 /// A thread reached a location.
@@ -117,6 +144,6 @@ pub extern "C" fn cq_is_stopped(thread: &mut CqThread, stops: &mut bool) -> u32
 ghost use Rattle.std.specs.Prelude.{◌≡◌};
 ghost use Rattle.ti_service.specs.Stops.{place_of};
 ghost use Rattle.ti_capi.specs.Handles.{thread_in};
-ghost use Rattle.ti_capi.specs.Stops.{MayStopBehind, ReachesBehind, call_of};
+ghost use Rattle.ti_capi.specs.Stops.{MayStopBehind, ReachesBehind, VersionBehind, call_of};
 ghost use Rattle.ti_capi.specs.Threads.{method_no};
 ghost use Rattle.ti_capi.specs.declared.thread_stops.Reach.TheVariants as reach;

@@ -66,6 +66,12 @@ with_classes m classes = record { cell = base_of m.cell.roster classes m.cell.po
 abbrev pub with_handle : Member → Member
 with_handle m = record { cell = m.cell; view = splitter m.view }
 
+-- One look. It showed how much had happened: no less than was seen, or than any earlier look showed
+pub record TellsCount (old new : Member) (count : ℕ) : Type 0 where
+  pub new_is : new ≡ with_look old count
+  pub seen : length old.view.seen ≤ count
+  pub looked : AreWithin count old.view.looked
+
 -- One look. It showed how much had happened: no less than was seen, or than any earlier look showed. There is news exactly if
 -- it was more than was seen
 pub record TellsNews (old new : Member) (news : Bool) : Type 0 where

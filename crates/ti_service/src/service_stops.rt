@@ -18,8 +18,19 @@ impl Service {
         self.roster.count(seat) > seat.seen_len() || seat.is_watched()
     }
 
-    /// A call about stops, which never waits. A runtime's are `Reached`, `Leaves` and `IsStopped`; all others are an environment's
-    /// (`StopCalls`), and 116 INVALID_ENVIRONMENT for a handle that is none's.
+    /// How much has happened: threads and environments that came or went, and what has changed about stops. It is one load, and grows
+    /// with each of these. Nothing changes but that the handle has looked.
+    pub fn happened(&mut self) -> u64
+        ensures tells { TellsCount self.old self.new result }
+    {
+        let Some(seat) = &mut self.seat else {
+            unreachable!()
+        };
+        self.roster.count(seat)
+    }
+
+    /// A call about stops, which never waits. A runtime's are `Reached`, `Leaves`, `IsStopped` and `MayStopIn`; all others are an
+    /// environment's (`StopCalls`), and 116 INVALID_ENVIRONMENT for a handle that is none's.
     ///
     /// A thread for which the reply to `Reached` or `Leaves` is `Stops(true)` waits until `IsStopped` is answered by `Waits(false)`.
     /// It hands over first, by going into native code, so that its stack can be read meanwhile.
@@ -49,4 +60,5 @@ impl Service {
 }
 
 ghost use Rattle.std.specs.Prelude.{◌≡◌, IfErr, IfOk};
+ghost use Rattle.ti_service.specs.Service.{TellsCount};
 ghost use Rattle.ti_service.specs.Stops.{Calls, RefusesCall, RefusesHeld, TellsWatch};

@@ -6,7 +6,7 @@ use Rattle.std.proofs.lemmas.Grind.{common_steps}
 use Rattle.ti_types.specs.declared.numbers.EnvNo.{EnvNo}
 use Rattle.ti_types.specs.declared.numbers.ThreadNo.{ThreadNo}
 use Rattle.ti_types.specs.declared.place.Frame.{Frame}
-use Rattle.ti_stops.specs.declared.call.StopCall.TheVariants.{Enable, Disable, SetBreakpoint, ClearBreakpoint, NotifyFramePop, Next, LetGo, Reached, Leaves, IsStopped}
+use Rattle.ti_stops.specs.declared.call.StopCall.TheVariants.{Enable, Disable, SetBreakpoint, ClearBreakpoint, NotifyFramePop, Next, LetGo, Reached, Leaves, IsStopped, MayStopIn}
 use Rattle.ti_stops.specs.declared.kind.StopKind.{StopKind}
 use Rattle.ti_stops.specs.declared.lists.Breakpoint.{Breakpoint}
 use Rattle.ti_stops.specs.declared.lists.Mode.{Mode}
@@ -70,6 +70,7 @@ pub others_change_nothing : OthersChangeNothing
 others_change_nothing s e o (Reached t at) h = refl
 others_change_nothing s e o (Leaves t at n) h = cc h
 others_change_nothing s e o (IsStopped t) h = refl
+others_change_nothing s e o (MayStopIn t m n) h = refl
 others_change_nothing s e None (Enable k t) h = refl
 others_change_nothing s e None (Disable k t) h = refl
 others_change_nothing s e None (SetBreakpoint at) h = refl
@@ -122,6 +123,7 @@ pub nobody_else_lets_go : NobodyElseLetsGo
 nobody_else_lets_go s e o (Reached t at) h = stays (waits_for e) s.waiting _
 nobody_else_lets_go s e o (Leaves t at n) h = stays (waits_for e) s.waiting _
 nobody_else_lets_go s e o (IsStopped t) h = same_list (waits_for e) s.waiting s.waiting refl
+nobody_else_lets_go s e o (MayStopIn t m n) h = same_list (waits_for e) s.waiting s.waiting refl
 nobody_else_lets_go s e None (Enable k t) h = same_list (waits_for e) s.waiting s.waiting refl
 nobody_else_lets_go s e None (Disable k t) h = same_list (waits_for e) s.waiting s.waiting refl
 nobody_else_lets_go s e None (SetBreakpoint at) h = same_list (waits_for e) s.waiting s.waiting refl

@@ -12,7 +12,7 @@ use Rattle.ti_stops.specs.Stops.{StopsNow, is_due, is_stop, stops_for, left_by, 
 use Rattle.ti_stops.specs.declared.kind.StopKind.TheVariants as kind
 use Rattle.ti_stops.proofs.Filters.{any_more}
 
-and_both : (a b : Bool) → (a && b) ≡ true → (a ≡ true) × (b ≡ true)
+pub and_both : (a b : Bool) → (a && b) ≡ true → (a ≡ true) × (b ≡ true)
 and_both true true h = (refl, refl)
 and_both true false h = cc h
 and_both false b h = cc h

@@ -8,7 +8,7 @@ use Rattle.ti_types.specs.declared.numbers.EnvNo.{EnvNo}
 use Rattle.ti_types.specs.declared.numbers.ThreadNo.{ThreadNo}
 use Rattle.ti_types.specs.declared.place.Frame.{Frame}
 use Rattle.ti_stops.specs.declared.call.StopCall.{StopCall}
-use Rattle.ti_stops.specs.declared.call.StopCall.TheVariants.{Enable, Disable, SetBreakpoint, ClearBreakpoint, NotifyFramePop, Next, LetGo, Reached, Leaves, IsStopped}
+use Rattle.ti_stops.specs.declared.call.StopCall.TheVariants.{Enable, Disable, SetBreakpoint, ClearBreakpoint, NotifyFramePop, Next, LetGo, Reached, Leaves, IsStopped, MayStopIn}
 use Rattle.ti_stops.specs.declared.kind.StopKind.{StopKind}
 use Rattle.ti_stops.specs.declared.lists.Breakpoint.{Breakpoint}
 use Rattle.ti_stops.specs.declared.lists.Mode.{Mode}
@@ -59,6 +59,7 @@ shares_answer s e (LetGo t) h = grind (arith, any_filter (is_told_at e t) (waits
 shares_answer s e (Reached t at) h = cc
 shares_answer s e (Leaves t at n) h = cc
 shares_answer s e (IsStopped t) h = cc
+shares_answer s e (MayStopIn t m n) h = cc
 
 -- the environments for which a thread stops
 waits_share : (e : EnvNo) (g h : EnvNo → Stop) → ((x : EnvNo) → is_env e x ≡ true → g x ≡ h x) → (envs : List EnvNo) → filter (waits_for e) (waits_by g envs) ≡ waits_by h (filter (is_env e) envs)
@@ -147,6 +148,7 @@ own_after e s (LetGo t) h = ap (λ (l : List Waiting). record (share e s) { wait
 own_after e s (Reached t at) h = cc
 own_after e s (Leaves t at n) h = cc
 own_after e s (IsStopped t) h = cc
+own_after e s (MayStopIn t m n) h = cc
 
 if_news : (e : EnvNo) (b : Bool) (s u v w : StopsNow) → share e s ≡ u → share e v ≡ w → share e (cond b v s) ≡ cond b w u
 if_news e true s u v w h k = k
@@ -179,6 +181,7 @@ other_after e f s (LetGo t) n h = ap (λ (l : List Waiting). record (share e s) 
 other_after e f s (Reached t at) n h = cc
 other_after e f s (Leaves t at m) n h = cc
 other_after e f s (IsStopped t) n h = cc
+other_after e f s (MayStopIn t m count) n h = cc
 
 other_made : (e f : EnvNo) (s : StopsNow) (call : StopCall) (r : Result StopReply StopError) → (f.0 == e.0) ≡ false → is_envs call ≡ true → share e (made_with s (Some f) call r) ≡ share e s
 other_made e f s call (Ok r) n h =
@@ -247,6 +250,7 @@ counted : (e : EnvNo) (s : StopsNow) (h : Happens) → counts e h ≡ true → s
 counted e s (Made o (Reached t at)) h = ap (share e) (reached_is s o t at) ∙ reached_shares e s t at ∙ sym (reached_is (share e s) o t at)
 counted e s (Made o (Leaves t at n)) h = ap (share e) (left_is s o t at n) ∙ left_shares_all e s t at n ∙ sym (left_is (share e s) o t at n)
 counted e s (Made o (IsStopped t)) h = cc
+counted e s (Made o (MayStopIn t m n)) h = cc
 counted e s (Made None (Enable k t)) h = cc
 counted e s (Made None (Disable k t)) h = cc
 counted e s (Made None (SetBreakpoint at)) h = cc
@@ -284,6 +288,7 @@ uncounted : (e : EnvNo) (s : StopsNow) (h : Happens) → counts e h ≡ false �
 uncounted e s (Made o (Reached t at)) h = cc
 uncounted e s (Made o (Leaves t at n)) h = cc
 uncounted e s (Made o (IsStopped t)) h = refl
+uncounted e s (Made o (MayStopIn t m n)) h = refl
 uncounted e s (Made None (Enable k t)) h = refl
 uncounted e s (Made None (Disable k t)) h = refl
 uncounted e s (Made None (SetBreakpoint at)) h = refl
@@ -333,6 +338,7 @@ pub item_shares : (e : EnvNo) (s : StopsNow) (o : Option EnvNo) (call : StopCall
 item_shares e s o (Reached t at) h = reached_shares e s t at
 item_shares e s o (Leaves t at n) h = left_shares_all e s t at n
 item_shares e s o (IsStopped t) h = cc
+item_shares e s o (MayStopIn t m n) h = cc
 item_shares e s None (Enable k t) h = cc
 item_shares e s None (Disable k t) h = cc
 item_shares e s None (SetBreakpoint at) h = cc
@@ -353,6 +359,7 @@ pub item_apart : (e : EnvNo) (s : StopsNow) (o : Option EnvNo) (call : StopCall)
 item_apart e s o (Reached t at) h = cc
 item_apart e s o (Leaves t at n) h = cc
 item_apart e s o (IsStopped t) h = refl
+item_apart e s o (MayStopIn t m n) h = refl
 item_apart e s None (Enable k t) h = refl
 item_apart e s None (Disable k t) h = refl
 item_apart e s None (SetBreakpoint at) h = refl
@@ -373,6 +380,7 @@ pub quiet_item : (o : Option EnvNo) (u : StopsNow) (call : StopCall) → is_envs
 quiet_item o u (Reached t at) h k = quiet_reached u t at k
 quiet_item o u (Leaves t at n) h k = quiet_left u t at n k
 quiet_item o u (IsStopped t) h k = refl
+quiet_item o u (MayStopIn t m n) h k = refl
 quiet_item o u (Enable k t) h n = cc
 quiet_item o u (Disable k t) h n = cc
 quiet_item o u (SetBreakpoint at) h n = cc

@@ -7,7 +7,7 @@ use Rattle.std.proofs.lemmas.List.Folds.{list_any-append}
 use Rattle.ti_types.specs.declared.numbers.EnvNo.{EnvNo}
 use Rattle.ti_types.specs.declared.numbers.ThreadNo.{ThreadNo}
 use Rattle.ti_stops.specs.declared.call.StopCall.{StopCall}
-use Rattle.ti_stops.specs.declared.call.StopCall.TheVariants.{Enable, Disable, SetBreakpoint, ClearBreakpoint, NotifyFramePop, Next, LetGo, Reached, Leaves, IsStopped}
+use Rattle.ti_stops.specs.declared.call.StopCall.TheVariants.{Enable, Disable, SetBreakpoint, ClearBreakpoint, NotifyFramePop, Next, LetGo, Reached, Leaves, IsStopped, MayStopIn}
 use Rattle.ti_stops.specs.declared.lists.Waiting.{Waiting}
 use Rattle.ti_stops.specs.Lists.{is_told_at, next_told, waits_for, waits_at}
 use Rattle.ti_stops.specs.Stops.{StopsNow, after, outcome, is_news, waits_by, reached_by, left_by}
@@ -36,6 +36,7 @@ waits_after : (e : EnvNo) (t : ThreadNo) (s : StopsNow) (o : Option EnvNo) (call
 waits_after e t s o (Reached u at) h k = still_any e t s.waiting (waits_by (reached_by s u at) s.envs) h
 waits_after e t s o (Leaves u at n) h k = still_any e t s.waiting (waits_by (left_by s u at n) s.envs) h
 waits_after e t s o (IsStopped u) h k = h
+waits_after e t s o (MayStopIn u m n) h k = h
 waits_after e t s None (Enable x u) h k = h
 waits_after e t s None (Disable x u) h k = h
 waits_after e t s None (SetBreakpoint at) h k = h

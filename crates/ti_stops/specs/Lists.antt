@@ -1,6 +1,7 @@
 -- What environments asked for, and who waits for them.
-use Rattle.std.specs.Prelude.{ℕ, ◌==◌, ◌&&◌, nat_le, not, Bool, true, false, if◌then◌else◌, List, [], ◌∷◌, Option, Some, None}
+use Rattle.std.specs.Prelude.{ℕ, ◌-◌, ◌==◌, ◌&&◌, nat_le, nat_lt, not, Bool, true, false, if◌then◌else◌, List, [], ◌∷◌, Option, Some, None}
 use Rattle.ti_types.specs.declared.numbers.EnvNo.{EnvNo}
+use Rattle.ti_types.specs.declared.numbers.MethodNo.{MethodNo}
 use Rattle.ti_types.specs.declared.numbers.ThreadNo.{ThreadNo}
 use Rattle.ti_types.specs.declared.place.Frame.{Frame}
 use Rattle.ti_types.specs.declared.place.Place.{Place}
@@ -59,6 +60,14 @@ is_mode_of e m = m.env.0 == e.0
 abbrev pub is_breakpoint : EnvNo → Frame → Breakpoint → Bool
 is_breakpoint e at b = b.env.0 == e.0 && is_same_frame b.at at
 
+-- one of so many methods, from this one on
+abbrev pub is_among : MethodNo → ℕ → MethodNo → Bool
+is_among first n m = nat_le first.0 m.0 && nat_lt (m.0 - first.0) n
+
+-- a breakpoint of the environment in one of these
+abbrev pub is_breakpoint_in : EnvNo → MethodNo → ℕ → Breakpoint → Bool
+is_breakpoint_in e first n b = b.env.0 == e.0 && is_among first n b.at.method
+
 abbrev pub is_breakpoint_of : EnvNo → Breakpoint → Bool
 is_breakpoint_of e b = b.env.0 == e.0
 
@@ -71,6 +80,9 @@ is_left t n p = p.thread.0 == t.0 && nat_le n p.frames
 
 abbrev pub is_popped : EnvNo → ThreadNo → ℕ → Pop → Bool
 is_popped e t n p = p.env.0 == e.0 && is_left t n p
+
+abbrev pub is_own_pop_at : EnvNo → ThreadNo → Pop → Bool
+is_own_pop_at e t p = p.env.0 == e.0 && p.thread.0 == t.0
 
 abbrev pub is_pop_at : ThreadNo → Pop → Bool
 is_pop_at t p = p.thread.0 == t.0

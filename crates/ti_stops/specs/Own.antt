@@ -2,7 +2,7 @@
 use Rattle.std.specs.Prelude.{◌≡◌, ◌==◌, ◌++◌, not, Bool, true, false, List, filter, Option, Some, None}
 use Rattle.ti_types.specs.declared.numbers.EnvNo.{EnvNo}
 use Rattle.ti_stops.specs.declared.call.StopCall.{StopCall}
-use Rattle.ti_stops.specs.declared.call.StopCall.TheVariants.{Enable, Disable, SetBreakpoint, ClearBreakpoint, NotifyFramePop, Next, LetGo, Reached, Leaves, IsStopped}
+use Rattle.ti_stops.specs.declared.call.StopCall.TheVariants.{Enable, Disable, SetBreakpoint, ClearBreakpoint, NotifyFramePop, Next, LetGo, Reached, Leaves, IsStopped, MayStopIn}
 use Rattle.ti_stops.specs.declared.lists.Breakpoint.{Breakpoint}
 use Rattle.ti_stops.specs.declared.lists.Mode.{Mode}
 use Rattle.ti_stops.specs.declared.lists.Pop.{Pop}
@@ -28,6 +28,7 @@ abbrev pub is_apart : EnvNo → Option EnvNo → StopCall → Bool
 is_apart e o (Leaves t at n) = false
 is_apart e o (Reached t at) = true
 is_apart e o (IsStopped t) = true
+is_apart e o (MayStopIn t m n) = true
 is_apart e o (Enable k t) = is_other e o
 is_apart e o (Disable k t) = is_other e o
 is_apart e o (SetBreakpoint at) = is_other e o
@@ -44,6 +45,7 @@ abbrev pub is_foreign : EnvNo → Option EnvNo → StopCall → Bool
 is_foreign e o (Leaves t at n) = true
 is_foreign e o (Reached t at) = true
 is_foreign e o (IsStopped t) = true
+is_foreign e o (MayStopIn t m n) = true
 is_foreign e o (Enable k t) = is_other e o
 is_foreign e o (Disable k t) = is_other e o
 is_foreign e o (SetBreakpoint at) = is_other e o

@@ -1,15 +1,17 @@
 -- What one environment is told of stops, over a whole list of calls: a function of its own calls, and of where threads come.
-use Rattle.std.specs.Prelude.{◌≡◌, ◌==◌, ◌&&◌, not, Bool, true, false, if◌then◌else◌, List, Option, Some, Result, Ok, Err}
+use Rattle.std.specs.Prelude.{ℕ, ◌≡◌, ◌==◌, ◌&&◌, not, Bool, true, false, if◌then◌else◌, List, Option, Some, Result, Ok, Err}
 use Rattle.std.specs.List.{fold, filter, list_any}
 use Rattle.ti_types.specs.declared.numbers.EnvNo.{EnvNo}
+use Rattle.ti_types.specs.declared.numbers.MethodNo.{MethodNo}
 use Rattle.ti_types.specs.declared.numbers.ThreadNo.{ThreadNo}
+use Rattle.ti_types.specs.declared.place.Frame.{Frame}
 use Rattle.ti_stops.specs.declared.call.StopCall.{StopCall}
-use Rattle.ti_stops.specs.declared.call.StopCall.TheVariants.{Enable, Disable, SetBreakpoint, ClearBreakpoint, NotifyFramePop, Next, LetGo, Reached, Leaves, IsStopped}
+use Rattle.ti_stops.specs.declared.call.StopCall.TheVariants.{Enable, Disable, SetBreakpoint, ClearBreakpoint, NotifyFramePop, Next, LetGo, Reached, Leaves, IsStopped, MayStopIn}
 use Rattle.ti_stops.specs.declared.call.StopReply.{StopReply}
 use Rattle.ti_stops.specs.declared.error.StopError.{StopError}
 use Rattle.ti_stops.specs.declared.lists.Waiting.{Waiting}
-use Rattle.ti_stops.specs.Lists.{is_env, is_mode_of, is_breakpoint_of, is_pop_of, waits_at, waits_for}
-use Rattle.ti_stops.specs.Stops.{StopsNow, after, is_news, no_stops, outcome, without_env, without_thread}
+use Rattle.ti_stops.specs.Lists.{is_among, is_env, is_mode_of, is_breakpoint_of, is_pop_of, waits_at, waits_for}
+use Rattle.ti_stops.specs.Stops.{StopsNow, after, is_news, left_by, may_stop_in, no_stops, outcome, reached_by, stops_for, without_env, without_thread}
 use Rattle.ti_stops.specs.Own.{is_other}
 
 -- What happens to stops: a call that is made, by an environment or by a runtime; an environment that is disposed of; a thread
@@ -47,6 +49,7 @@ abbrev pub call_counts : EnvNo → Option EnvNo → StopCall → Bool
 call_counts e o (Reached t at) = true
 call_counts e o (Leaves t at n) = true
 call_counts e o (IsStopped t) = false
+call_counts e o (MayStopIn t m n) = false
 call_counts e o (Enable k t) = not (is_other e o)
 call_counts e o (Disable k t) = not (is_other e o)
 call_counts e o (SetBreakpoint at) = not (is_other e o)
@@ -70,6 +73,7 @@ abbrev pub is_envs : StopCall → Bool
 is_envs (Reached t at) = false
 is_envs (Leaves t at n) = false
 is_envs (IsStopped t) = false
+is_envs (MayStopIn t m n) = false
 is_envs _ = true
 
 -- an environment's call is answered by its share alone
@@ -100,6 +104,13 @@ may_end e t (Disposed f) = f.0 == e.0
 may_end e t (Left u) = u.0 == t.0
 
 -- a thread that waits for an environment goes on waiting, whatever others do, and has to wait for that
+-- A thread stops in a method, at a location or as it leaves a frame, only if it may stop in one of the methods that are asked about
+abbrev pub StopsWhereItMay : Type 0
+StopsWhereItMay =
+    (s : StopsNow) (t : ThreadNo) (first : MethodNo) (n : ℕ) (at : Frame) → is_among first n at.method ≡ true
+    → (stops_for (reached_by s t at) s.envs ≡ true → may_stop_in s t first n ≡ true)
+    × ((k : ℕ) → stops_for (left_by s t at k) s.envs ≡ true → may_stop_in s t first n ≡ true)
+
 abbrev pub WaitsUntilEnded : Type 0
 WaitsUntilEnded =
     (e : EnvNo) (t : ThreadNo) (s : StopsNow) (more : List Happens) →

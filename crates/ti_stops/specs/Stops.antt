@@ -2,10 +2,11 @@
 use Rattle.std.specs.Prelude.{ℕ, ◌≡◌, ◌⊎◌, ◌&&◌, ◌||◌, not, Bool, true, false, if◌then◌else◌, List, [], ◌∷◌, ◌++◌, map, filter, Option, Some, None, Result, Ok, Err, IfOk, IfErr}
 use Rattle.std.specs.List.{list_any}
 use Rattle.ti_types.specs.declared.numbers.EnvNo.{EnvNo}
+use Rattle.ti_types.specs.declared.numbers.MethodNo.{MethodNo}
 use Rattle.ti_types.specs.declared.numbers.ThreadNo.{ThreadNo}
 use Rattle.ti_types.specs.declared.place.Frame.{Frame}
 use Rattle.ti_stops.specs.declared.call.StopCall.{StopCall}
-use Rattle.ti_stops.specs.declared.call.StopCall.TheVariants.{Enable, Disable, SetBreakpoint, ClearBreakpoint, NotifyFramePop, Next, LetGo, Reached, Leaves, IsStopped}
+use Rattle.ti_stops.specs.declared.call.StopCall.TheVariants.{Enable, Disable, SetBreakpoint, ClearBreakpoint, NotifyFramePop, Next, LetGo, Reached, Leaves, IsStopped, MayStopIn}
 use Rattle.ti_stops.specs.declared.call.StopReply.{StopReply}
 use Rattle.ti_stops.specs.declared.call.StopReply.TheVariants.{Done, Stops, Told, Waits}
 use Rattle.ti_stops.specs.declared.error.StopError.{StopError}
@@ -17,7 +18,7 @@ use Rattle.ti_stops.specs.declared.lists.Mode.{Mode}
 use Rattle.ti_stops.specs.declared.lists.Pop.{Pop}
 use Rattle.ti_stops.specs.declared.lists.Waiting.{Waiting}
 use Rattle.ti_stops.specs.declared.stop.Stop.{Stop}
-use Rattle.ti_stops.specs.Lists.{is_env, is_mode, is_heard, is_mode_at, is_mode_of, is_breakpoint, is_breakpoint_of, is_pop, is_left, is_popped, is_pop_at, is_pop_of, waits_at, waits_for, is_told_at, next_stop, next_told}
+use Rattle.ti_stops.specs.Lists.{is_env, is_mode, is_heard, is_mode_at, is_mode_of, is_breakpoint, is_breakpoint_in, is_breakpoint_of, is_pop, is_left, is_popped, is_own_pop_at, is_pop_at, is_pop_of, waits_at, waits_for, is_told_at, next_stop, next_told}
 
 pub record StopsNow : Type 0 where
   -- the environments that enabled something, each once, in the order in which they first did
@@ -74,6 +75,16 @@ waits_by f envs = map (λ e. record { env = e; stop = f e; told = false }) (filt
 abbrev pub stops_for : (EnvNo → Stop) → List EnvNo → Bool
 stops_for f envs = list_any (λ e. is_stop (f e)) envs
 
+-- whether a thread may have to stop for an environment in one of so many methods, from this one on
+abbrev pub may_stop_by : StopsNow → ThreadNo → MethodNo → ℕ → EnvNo → Bool
+may_stop_by s t m n e =
+    (list_any (is_breakpoint_in e m n) s.breakpoints && hears s e kind.Breakpoint t)
+    || hears s e kind.SingleStep t
+    || (list_any (is_own_pop_at e t) s.pops && hears s e kind.FramePop t)
+
+abbrev pub may_stop_in : StopsNow → ThreadNo → MethodNo → ℕ → Bool
+may_stop_in s t m n = list_any (may_stop_by s t m n) s.envs
+
 -- whether the call changed something
 abbrev pub is_news : StopReply → Bool
 is_news Done = true
@@ -99,6 +110,7 @@ outcome s o (LetGo t) = by_env o (λ e. if list_any (is_told_at e t) s.waiting t
 outcome s o (Reached t at) = Ok (Stops (stops_for (reached_by s t at) s.envs))
 outcome s o (Leaves t at n) = Ok (Stops (stops_for (left_by s t at n) s.envs))
 outcome s o (IsStopped t) = Ok (Waits (list_any (waits_at t) s.waiting))
+outcome s o (MayStopIn t m n) = Ok (Waits (may_stop_in s t m n))
 
 -- an environment is among these from now on
 abbrev pub with_env : EnvNo → List EnvNo → List EnvNo
@@ -153,8 +165,9 @@ after s o (LetGo t) = after_env o s (λ e. let_go s e t)
 after s o (Reached t at) = with_reached s t at
 after s o (Leaves t at n) = with_left s t at n
 after s o (IsStopped t) = s
+after s o (MayStopIn t m n) = s
 
--- whether a call needs memory for what it changes. `Disable`, `ClearBreakpoint`, `Next`, `LetGo` and `IsStopped` need none
+-- whether a call needs memory for what it changes. `Disable`, `ClearBreakpoint`, `Next`, `LetGo`, `IsStopped` and `MayStopIn` need none
 abbrev pub takes_memory : StopCall → Bool
 takes_memory (Enable k t) = true
 takes_memory (Disable k t) = false
@@ -166,6 +179,7 @@ takes_memory (LetGo t) = false
 takes_memory (Reached t at) = true
 takes_memory (Leaves t at n) = true
 takes_memory (IsStopped t) = false
+takes_memory (MayStopIn t m n) = false
 
 -- whether the call is answered with news
 abbrev pub has_news : Result StopReply StopError → Bool

@@ -2,9 +2,9 @@
 
 use crate::kind::StopKind;
 use crate::stop::Stop;
-use ti_types::{Frame, ThreadNo};
+use ti_types::{Frame, MethodNo, ThreadNo};
 
-/// One call about stops. The first seven are an environment's, the last three a runtime's.
+/// One call about stops. The first seven are an environment's, the last four a runtime's.
 #[derive(Clone, Copy, Debug, PartialEq, Eq)]
 pub enum StopCall {
     /// The environment hears of this kind of event, at one thread, or at all (JVM TI 11, SetEventNotificationMode).
@@ -28,6 +28,9 @@ pub enum StopCall {
     Leaves(ThreadNo, Frame, u32),
     /// Whether the thread has to wait.
     IsStopped(ThreadNo),
+    /// Whether the thread may have to stop in one of so many methods, from this one on: an environment that hears of breakpoints at the
+    /// thread has one there, or one hears of its single steps, or one hears of its pops of frames and wants to know of one.
+    MayStopIn(ThreadNo, MethodNo, u32),
 }
 
 /// What a call about stops gives.
@@ -39,7 +42,7 @@ pub enum StopReply {
     Stops(bool),
     /// The stop, if there is one: to `Next`.
     Told(Option<Stop>),
-    /// Whether the thread has to wait: to `IsStopped`.
+    /// Whether the thread has to wait, to `IsStopped`, or may have to, to `MayStopIn`.
     Waits(bool),
 }
 

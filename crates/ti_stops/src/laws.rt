@@ -25,5 +25,10 @@ pub fn threads_wait_until_ended()
     ensures { WaitsUntilEnded }
 {}
 
+/// A thread stops in a method only if it may stop there, as a runtime asks (`StopCall::MayStopIn`).
+pub fn stops_where_it_may()
+    ensures { StopsWhereItMay }
+{}
+
 ghost use Rattle.ti_stops.specs.Own.{NobodyElseLetsGo, OthersChangeNothing};
-ghost use Rattle.ti_stops.specs.Shares.{SharesAnswer, SharesAreOwn, StopsAgree, WaitsUntilEnded};
+ghost use Rattle.ti_stops.specs.Shares.{SharesAnswer, SharesAreOwn, StopsAgree, StopsWhereItMay, WaitsUntilEnded};

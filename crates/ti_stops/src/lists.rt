@@ -3,7 +3,7 @@
 use crate::error::StopError;
 use crate::kind::StopKind;
 use crate::stop::Stop;
-use ti_types::{EnvNo, Frame, Place, ThreadNo};
+use ti_types::{EnvNo, Frame, MethodNo, Place, ThreadNo};
 
 /// An environment hears of a kind of event, at one thread, or at all.
 #[derive(Clone, Copy)]
@@ -44,6 +44,13 @@ impl Breakpoint {
         ensures { result ≡ is_breakpoint env at self.now }
     {
         self.env.0 == env.0 && is_same_frame(self.at, at)
+    }
+
+    /// Whether it is the environment's in one of so many methods, from this one on.
+    fn is_in(&self, env: EnvNo, first: MethodNo, count: u32) -> bool
+        ensures { result ≡ is_breakpoint_in env first count self.now }
+    {
+        self.env.0 == env.0 && first.0 <= self.at.method.0 && self.at.method.0 - first.0 < count
     }
 }
 
@@ -314,6 +321,57 @@ pub(crate) fn stops_for(
     envs.iter().any(|env| stop_by(modes, breakpoints, pops, arrival, *env).is_stop())
 }
 
+/// Whether an environment has a breakpoint in one of so many methods, from this one on.
+fn has_breakpoint_in(breakpoints: &[Breakpoint], env: EnvNo, first: MethodNo, count: u32) -> bool
+    ensures { result ≡ list_any (is_breakpoint_in env first count) breakpoints.now }
+{
+    breakpoints
+        .iter()
+        .any(|breakpoint| breakpoint.is_in(env, first, count))
+}
+
+/// Whether an environment asked for the pop of a frame of a thread.
+fn has_pop_at(pops: &[Pop], env: EnvNo, thread: ThreadNo) -> bool
+    ensures { result ≡ list_any (is_own_pop_at env thread) pops.now }
+{
+    pops.iter()
+        .any(|pop| pop.env.0 == env.0 && pop.thread.0 == thread.0)
+}
+
+/// Whether a thread may have to stop for an environment in one of so many methods, from this one on.
+fn may_stop_by(
+    modes: &[Mode],
+    breakpoints: &[Breakpoint],
+    pops: &[Pop],
+    thread: ThreadNo,
+    first: MethodNo,
+    count: u32,
+    env: EnvNo,
+) -> bool
+    ensures { result ≡ may_stop_by (asked modes.now breakpoints.now pops.now) thread first count env }
+{
+    let breaks = has_breakpoint_in(breakpoints, env, first, count)
+        && hears(modes, env, StopKind::Breakpoint, thread);
+    let steps = hears(modes, env, StopKind::SingleStep, thread);
+    let pops = has_pop_at(pops, env, thread) && hears(modes, env, StopKind::FramePop, thread);
+    breaks || steps || pops
+}
+
+/// The same, for one of these environments.
+pub(crate) fn may_stop_in(
+    modes: &[Mode],
+    breakpoints: &[Breakpoint],
+    pops: &[Pop],
+    thread: ThreadNo,
+    first: MethodNo,
+    count: u32,
+    envs: &[EnvNo],
+) -> bool
+    ensures { result ≡ list_any (may_stop_by (asked modes.now breakpoints.now pops.now) thread first count) envs.now }
+{
+    envs.iter().any(|env| may_stop_by(modes, breakpoints, pops, thread, first, count, *env))
+}
+
 /// Adds the stops of a thread for these environments. There has to be room for them.
 pub(crate) fn add_stops(
     modes: &[Mode],
@@ -344,5 +402,5 @@ ghost use Rattle.std.specs.Prelude.{◌&&◌, ◌≡◌, ◌≤◌, ◌+◌, ◌
 ghost use Rattle.ti_stops.specs.declared.error.StopError.TheVariants.{OutOfMemory};
 ghost use Rattle.std.specs.List.{list_any};
 ghost use Rattle.ti_stops.specs.Arrivals.{asked, stop_by};
-ghost use Rattle.ti_stops.specs.Lists.{covers, is_breakpoint, is_env, is_heard, is_left, is_mode, is_pop, is_popped, is_same_frame, is_same_place, is_same_target, is_target, is_told_at, is_untold, next_stop, next_told, waits_at};
-ghost use Rattle.ti_stops.specs.Stops.{is_stop, stops_for, waits_by, with_env};
+ghost use Rattle.ti_stops.specs.Lists.{covers, is_breakpoint, is_breakpoint_in, is_env, is_heard, is_left, is_mode, is_own_pop_at, is_pop, is_popped, is_same_frame, is_same_place, is_same_target, is_target, is_told_at, is_untold, next_stop, next_told, waits_at};
+ghost use Rattle.ti_stops.specs.Stops.{is_stop, may_stop_by, stops_for, waits_by, with_env};

@@ -5,12 +5,12 @@ use crate::error::StopError;
 use crate::kind::StopKind;
 use crate::lists::{
     Arrival, Breakpoint, Mode, Pop, Waiting, add_stops, drop_mode, has_breakpoint, has_pop, is_due,
-    is_target, is_told_at, is_waiting, put_env, stops_for, tell_next,
+    is_target, is_told_at, is_waiting, may_stop_in, put_env, stops_for, tell_next,
 };
 use crate::stop::Stop;
 use std::alloc::Global;
 use std::marker::Model;
-use ti_types::{EnvNo, Frame, ThreadNo};
+use ti_types::{EnvNo, Frame, MethodNo, ThreadNo};
 
 /// Where environments want threads to stop, and which threads wait for them. Contracts see it as `StopsNow`.
 #[derive(Drop)]
@@ -67,8 +67,8 @@ impl Stops {
     ///   it yet.
     /// - 40 DUPLICATE: the environment has this breakpoint, or waits for this pop already.
     /// - 41 NOT_FOUND: at `ClearBreakpoint`, the environment has no such breakpoint.
-    /// - 110 OUT_OF_MEMORY: there is no memory for what the call would change. `Disable`, `ClearBreakpoint`, `Next`, `LetGo` and
-    ///   `IsStopped` need none.
+    /// - 110 OUT_OF_MEMORY: there is no memory for what the call would change. `Disable`, `ClearBreakpoint`, `Next`, `LetGo`,
+    ///   `IsStopped` and `MayStopIn` need none.
     /// - 116 INVALID_ENVIRONMENT: an environment's call by whoever is none.
     ///
     /// An answer that is no news (`StopReply::is_news`) changes nothing either.
@@ -84,6 +84,9 @@ impl Stops {
             (StopCall::IsStopped(thread), _) => {
                 Ok(StopReply::Waits(is_waiting(&self.waiting, thread)))
             }
+            (StopCall::MayStopIn(thread, first, count), _) => {
+                Ok(StopReply::Waits(self.may_stop_in(thread, first, count)))
+            }
             (_, None) => Err(StopError::InvalidEnvironment),
             (StopCall::Enable(kind, thread), Some(env)) => self.enable(env, kind, thread),
             (StopCall::Disable(kind, thread), Some(env)) => {
@@ -98,6 +101,13 @@ impl Stops {
             (StopCall::Next, Some(env)) => Ok(StopReply::Told(self.next(env))),
             (StopCall::LetGo(thread), Some(env)) => self.let_go(env, thread),
         }
+    }
+
+    fn may_stop_in(&self, thread: ThreadNo, first: MethodNo, count: u32) -> bool
+        ensures { result ≡ may_stop_in self.now thread first count }
+    {
+        let (modes, breakpoints, pops) = (&self.modes, &self.breakpoints, &self.pops);
+        may_stop_in(modes, breakpoints, pops, thread, first, count, &self.envs)
     }
 
     fn enable(
@@ -255,4 +265,4 @@ ghost use Rattle.ti_stops.specs.declared.error.StopError.TheVariants.{OutOfMemor
 ghost use Rattle.ti_stops.specs.declared.call.StopCall.TheVariants.{ClearBreakpoint, Enable, Leaves, LetGo, Next, NotifyFramePop, Reached, SetBreakpoint};
 ghost use Rattle.ti_stops.specs.declared.call.StopReply.TheVariants.{Told};
 ghost use Rattle.ti_stops.specs.Arrivals.{arrived, stop_in};
-ghost use Rattle.ti_stops.specs.Stops.{LacksMemory, Obeys, after, is_news, is_watched, no_stops, outcome, stops_for, without_env, without_thread};
+ghost use Rattle.ti_stops.specs.Stops.{LacksMemory, Obeys, after, is_news, is_watched, may_stop_in, no_stops, outcome, stops_for, without_env, without_thread};

@@ -5,7 +5,7 @@ use core::ptr::null_mut;
 
 // The version whose functions are declared here.
 pub const CQ_VERSION_MAJOR: u32 = 2;
-pub const CQ_VERSION_MINOR: u32 = 3;
+pub const CQ_VERSION_MINOR: u32 = 4;
 
 // cq_code
 /// It is done, or the answer is there.
@@ -660,6 +660,8 @@ extern "C" {
         count: *mut u64,
     ) -> u32;
     pub fn cq_may_stop(thread: *mut cq_thread) -> bool;
+    pub fn cq_stops_version(thread: *mut cq_thread) -> u64;
+    pub fn cq_may_stop_in(thread: *mut cq_thread, first: u32, count: u32, may: *mut bool) -> u32;
     pub fn cq_reached(thread: *mut cq_thread, method: u32, location: u32, stops: *mut bool) -> u32;
     pub fn cq_leaves(thread: *mut cq_thread, method: u32, location: u32, frames: u32, stops: *mut bool) -> u32;
     pub fn cq_is_stopped(thread: *mut cq_thread, stops: *mut bool) -> u32;

@@ -32,6 +32,19 @@ impl Running {
         unsafe { sys::cq_may_stop(self.handle()) }
     }
 
+    /// A number that grows whenever something about stops changes, and whenever a thread or an environment comes or goes.
+    pub fn stops_version(&mut self) -> u64 {
+        unsafe { sys::cq_stops_version(self.handle()) }
+    }
+
+    /// Whether the thread may have to stop in one of `count` methods, from the number `first` on. If not, it does not stop there while
+    /// [`Running::stops_version`] is what it was before.
+    pub fn may_stop_in(&mut self, first: u32, count: u32) -> Result<bool, Error> {
+        let mut may = false;
+        settled(|| unsafe { sys::cq_may_stop_in(self.handle(), first, count, &mut may) })?;
+        Ok(may)
+    }
+
     /// The thread is at this location of this method. Gives whether it has to stop there, by [`Running::stop`].
     pub fn reached(&mut self, method: u32, location: u32) -> Result<bool, Error> {
         let mut stops = false;

@@ -20,7 +20,10 @@ fn service() -> (Service, Environment) {
 
 fn go_to(thread: &mut Running, location: u32) {
     thread.at(location).unwrap();
+    let version = thread.stops_version();
+    let may = thread.may_stop_in(0, 1).unwrap();
     if thread.may_stop() && thread.reached(0, location).unwrap() {
+        assert!(may && thread.stops_version() > version);
         thread.stop().unwrap();
     }
 }
