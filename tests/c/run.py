@@ -76,6 +76,7 @@ PROGRAMS = [
     Program("gather_lost", ["gather_lost.c"], HEAP),
     Program("turns", ["turns.c"], HEAP, {VALGRIND: ["100"]}, wait=[HERE / "slow_wait.c"]),
     Program("poll_word", ["poll_word.c"], HEAP, {VALGRIND: ["100"]}),
+    Program("proxy", ["proxy.c"], HEAP, {THREAD: ["1000"], VALGRIND: ["60"]}),
     Program("green", ["green.c"], COUNTED_HEAP, {THREAD: ["512"], VALGRIND: ["128"]}),
     Program("meet_on", ["meet_on.c"], COUNTED_HEAP, {VALGRIND: ["1"]}, wait=[]),
     Program("cxx", ["cxx.cpp"], HEAP + NAMES),
