@@ -1,6 +1,6 @@
 # CONTRIBUTING.md says what each target is for and what it needs, ci/README.md and tests/README.md what each script shows.
 # `make install` installs what `make lib` has built, and the programs that are built, below PREFIX. `make uninstall` removes them.
-.PHONY: run try test examples cases bench refused stress edits lib capi installed lua serve jdb install uninstall jvm model
+.PHONY: run try test examples cases bench refused stress edits lib capi installed lua python serve jdb dap-adapter dap install uninstall jvm model
 
 CAPI = crates/ti_capi/out/libti_capi.a
 TIBENCH = bench/out/tibench
@@ -37,6 +37,7 @@ bench: lib $(TIBENCH)
 	$(TIBENCH) cost
 	python3 bench/orders.py
 	python3 bench/spinning.py
+	python3 bench/calls.py dist/lib/libcebdyraq.a
 	$(CC) -O2 -std=c11 tests/c/bench.c dist/lib/libcebdyraq.a -lpthread -o dist/bench && dist/bench
 	$(CC) -O2 -std=c11 tests/c/bench_classes.c dist/lib/libcebdyraq.a -lpthread -o dist/bench_classes && dist/bench_classes
 	$(CC) -O2 -std=c11 tests/c/bench_serve.c dist/lib/libcebdyraq.a -lpthread -o dist/bench_serve && dist/bench_serve
@@ -72,6 +73,10 @@ lua: lib
 	$(MAKE) -C hosts/lua CEBDYRAQ=$(CURDIR)/dist
 	cd hosts/lua && python3 test.py
 
+python: lib
+	$(MAKE) -C hosts/python CEBDYRAQ=$(CURDIR)/dist
+	cd hosts/python && python3 test.py && python3 suites.py
+
 serve: lib
 	$(MAKE) -C hosts/lua CEBDYRAQ=$(CURDIR)/dist
 	python3 tests/serve/run.py
@@ -80,6 +85,13 @@ jdb: lib
 	$(MAKE) -C hosts/lua CEBDYRAQ=$(CURDIR)/dist
 	python3 tests/jdb/run.py
 
+dap-adapter:
+	python3 tools/dap/build.py
+
+dap: lib dap-adapter
+	$(MAKE) -C hosts/lua CEBDYRAQ=$(CURDIR)/dist
+	python3 tests/dap/run.py
+
 # PREFIX is where the files are looked for later, and DESTDIR a folder before it into which they are put now.
 PREFIX ?= /usr/local
 BINDIR ?= $(PREFIX)/bin
@@ -87,8 +99,8 @@ LIBDIR ?= $(PREFIX)/lib
 INCLUDEDIR ?= $(PREFIX)/include
 MANDIR ?= $(PREFIX)/share/man
 SHAREDIR ?= $(PREFIX)/share/cebdyraq
-PROGRAMS = $(wildcard $(foreach name,tiwalk tilint tiprof,crates/$(name)/out/$(name)) hosts/lua/out/cqlua)
-INSTALLED = $(BINDIR)/tiwalk $(BINDIR)/tilint $(BINDIR)/tiprof $(BINDIR)/cqlua $(MANDIR)/man3/cebdyraq.3 \
+PROGRAMS = $(wildcard $(foreach name,tiwalk tilint tiprof,crates/$(name)/out/$(name)) hosts/lua/out/cqlua tools/dap/out/cq-dap)
+INSTALLED = $(BINDIR)/tiwalk $(BINDIR)/tilint $(BINDIR)/tiprof $(BINDIR)/cqlua $(BINDIR)/cq-dap $(MANDIR)/man3/cebdyraq.3 \
 	$(LIBDIR)/libcebdyraq.a $(LIBDIR)/libcebdyraq.so $(LIBDIR)/libcebdyraq.so.2 $(LIBDIR)/libcebdyraq.so.2.* \
 	$(SHAREDIR)/tsan.supp $(LIBDIR)/pkgconfig/cebdyraq.pc $(INCLUDEDIR)/cebdyraq.h $(INCLUDEDIR)/cebdyraq.hpp $(INCLUDEDIR)/cebdyraq_wait.h $(INCLUDEDIR)/cebdyraq_serve.h
 

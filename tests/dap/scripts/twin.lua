@@ -1,0 +1,3 @@
+while true do
+    local round = 1
+end
