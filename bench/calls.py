@@ -1,7 +1,8 @@
 #!/usr/bin/env python3
-"""What calls through C at a thread in native code cost: instructions by valgrind, and nanoseconds.
+"""What calls through C cost, of an agent at a thread in native code, and of a running thread (`calls.c`): instructions by valgrind, and
+nanoseconds.
 
-    calls.py ARCHIVE
+    calls.py ARCHIVE [CALL..]
 
 ARCHIVE is the library for C, such as dist/lib/libcebdyraq.a. Instructions are those of 20,000 calls without those of 10,000, so
 that only the calls and the loop around them are counted. From these are taken what the loop takes with no call. Nanoseconds are
@@ -15,7 +16,8 @@ import sys
 import tempfile
 
 HERE = pathlib.Path(__file__).resolve().parent
-CALLS = ["none", "state", "word", "set_word", "resume", "count"]
+CALLS = ["none", "state", "word", "set_word", "resume", "count", "poll_clear", "poll", "enter_leave", "native_back", "wait_native_back", "set_frames",
+         "trace", "may_stop", "reached", "may_stop_in", "version"]
 FEW, MANY, ROUNDS, RUNS = 10000, 20000, 1000000, 9
 
 
@@ -34,11 +36,11 @@ def main():
         program = pathlib.Path(folder) / "calls"
         said("cc", "-O2", "-std=c11", HERE / "calls.c", sys.argv[1], "-lpthread", "-o", program)
         empty = 0
-        for call in CALLS:
+        for call in ["none", *sys.argv[2:]] if sys.argv[2:] else CALLS:
             each = (instructions(program, call, MANY) - instructions(program, call, FEW)) / (MANY - FEW)
             empty = empty or each
             least = min(float(said(program, call, ROUNDS)) for _ in range(RUNS))
-            print(f"{call:10} {each - empty:6.0f} instructions {least:6.1f} ns", flush=True)
+            print(f"{call:16} {each - empty:6.0f} instructions {least:6.1f} ns", flush=True)
 
 
 if __name__ == "__main__":
