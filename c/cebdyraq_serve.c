@@ -3,6 +3,7 @@
 #include "cebdyraq_serve.h"
 #include "cebdyraq_listen.h"
 #include "cebdyraq_peer.h"
+#include "cebdyraq_servers.h"
 
 #include <errno.h>
 #include <fcntl.h>
@@ -13,6 +14,7 @@
 #include <signal.h>
 #include <string.h>
 #include <sys/eventfd.h>
+#include <sys/prctl.h>
 #include <sys/socket.h>
 #include <time.h>
 
@@ -22,6 +24,8 @@ static const uint64_t GREETING_NS = 2000000000;  /* how long a debugger may take
 static const uint64_t NEVER = UINT64_MAX;
 static const uint64_t NAP_NS = 50000;          /* between two tries of what another uses */
 static const uint64_t SOON_NS = 1000000;       /* after a tick the door is due within it if there may be more to do */
+static const uint64_t FIRST_LOOK_NS = 50000, LAST_LOOK_NS = 800000;  /* between the looks at what is awaited */
+static const unsigned long SLACK_NS = 1000;    /* by which the system may end a sleep of the server's late */
 static const uint64_t REFUSED_NS = 100000000;  /* before connections are taken in again after the system refused one */
 static const uint64_t PERIOD_NS = 10000000000;  /* within which a peer takes LEAST_TAKEN bytes, or all that there is */
 static const uint64_t LEAST_TAKEN = 65536;
@@ -35,7 +39,7 @@ typedef struct {
 } pace;
 
 /* What lies in a cq_server. */
-typedef struct __attribute__((may_alias)) {
+typedef struct __attribute__((may_alias)) server {
     cq_door door;
     cq_signal *signal;
     pthread_t thread;
@@ -61,6 +65,8 @@ typedef struct __attribute__((may_alias)) {
     bool starts_suspended;                       /* the first debugger finds all threads suspended */
     bool is_for_debuggers;                       /* it listens for them, or did so last */
     bool runs;
+    bool looks;                                  /* for stops. It is under the lock of all servers, as is what follows */
+    struct server *next;                         /* the next one that runs */
 } server;
 _Static_assert(sizeof(server) <= sizeof(cq_server), "it fits");
 
@@ -84,6 +90,64 @@ static uint64_t now_ns(void) {
 static void nap(void) {
     struct timespec time = { 0, (long)NAP_NS };
     nanosleep(&time, NULL);
+}
+
+static void wake_thread(const server *s) {
+    while (eventfd_write(s->waker, 1) && errno == EINTR) {
+    }
+}
+
+/* ------------------------------------------------------------------------------------------------------------------
+ * Looking for stops. A thread that reaches one wakes the servers that look for some.
+ */
+
+static pthread_mutex_t of_servers = PTHREAD_MUTEX_INITIALIZER;
+static server *first_server;         /* of those that run */
+static uint32_t looking;             /* how many of them look for stops; it is changed with the lock */
+
+static void set_looks(server *s, bool looks) {
+    __atomic_fetch_add(&looking, (uint32_t)looks - (uint32_t)s->looks, __ATOMIC_SEQ_CST);
+    s->looks = looks;
+}
+
+/* From now on the server is woken by the first stop, or no longer by any. */
+static void look_for_stops(server *s, bool looks) {
+    pthread_mutex_lock(&of_servers);
+    set_looks(s, looks);
+    pthread_mutex_unlock(&of_servers);
+}
+
+static void add_server(server *s) {
+    pthread_mutex_lock(&of_servers);
+    s->next = first_server;
+    first_server = s;
+    pthread_mutex_unlock(&of_servers);
+}
+
+/* Nobody writes to its waker any more. */
+static void remove_server(server *s) {
+    pthread_mutex_lock(&of_servers);
+    server **at = &first_server;
+    while (*at != s) {
+        at = &(*at)->next;
+    }
+    *at = s->next;
+    set_looks(s, false);
+    pthread_mutex_unlock(&of_servers);
+}
+
+void cebdyraq_wake_servers(const cq_signal *signal) {
+    if (__atomic_load_n(&looking, __ATOMIC_SEQ_CST) == 0) {
+        return;
+    }
+    pthread_mutex_lock(&of_servers);
+    for (server *s = first_server; s; s = s->next) {
+        if (s->looks && s->signal == signal && !pthread_equal(s->thread, pthread_self())) {
+            set_looks(s, false);
+            wake_thread(s);
+        }
+    }
+    pthread_mutex_unlock(&of_servers);
 }
 
 /* ------------------------------------------------------------------------------------------------------------------
@@ -356,9 +420,29 @@ static nfds_t list_open(const struct pollfd *all, struct pollfd *open) {
     return count;
 }
 
+/* When the thread looks again at what is awaited, such as an answer. The door would look each millisecond, and an answer counts as given
+ * when it is found. So the first look comes sooner, and each further one after twice the time. */
+typedef struct {
+    uint64_t due;    /* when the door is due, as the tick before said */
+    uint64_t after;  /* how long after the look before */
+} looks;
+
+/* Whether the door is due so soon after a tick that it awaits something. */
+static bool awaits(uint64_t deadline, uint64_t now) {
+    return deadline <= now + SOON_NS;
+}
+
+/* When the thread looks again if nothing comes. If something has come, or the door was due, something else may be awaited now. */
+static uint64_t next_look(looks *l, bool has_come, uint64_t deadline) {
+    uint64_t now = now_ns();
+    l->after = has_come || now >= l->due ? FIRST_LOOK_NS : earlier(2 * l->after, LAST_LOOK_NS);
+    l->due = deadline;
+    return awaits(deadline, now) ? earlier(deadline, now + l->after) : deadline;
+}
+
 /* Sleeps until a socket has something, the thread is woken, or this time has come. If the system does not poll, each may have something
- * after a while. */
-static void rest(struct pollfd *all, uint64_t until) {
+ * after a while. Returns whether something may have come. */
+static bool rest(struct pollfd *all, uint64_t until) {
     struct pollfd open[ALL];
     nfds_t count = list_open(all, open), at = 0;
     uint64_t now = now_ns(), left = until > now ? until - now : 0;
@@ -373,6 +457,7 @@ static void rest(struct pollfd *all, uint64_t until) {
         short come = all[i].fd < 0 ? 0 : open[at++].revents;
         all[i].revents = is_refused ? all[i].events : found > 0 ? come : 0;
     }
+    return found != 0;
 }
 
 /* Reads from all sockets that have something, and goes on with each connection. Returns whether one has written or left. */
@@ -453,11 +538,6 @@ typedef struct {
 
 enum { QUIET_PASSES = 2, MOST_PASSES = 8 };
 
-static void wake_thread(const server *s) {
-    while (eventfd_write(s->waker, 1) && errno == EINTR) {
-    }
-}
-
 /* Takes what others have asked of the thread, after it was woken or not. Returns whether it goes on. */
 static bool take_orders(server *s, bool is_woken, telling *t) {
     eventfd_t count;
@@ -489,7 +569,7 @@ static uint64_t next_pass(server *s, telling *t, uint64_t deadline) {
         return NEVER;
     }
     t->passes++;
-    t->quiet = deadline <= now + SOON_NS ? 0 : t->quiet + 1;
+    t->quiet = awaits(deadline, now) ? 0 : t->quiet + 1;
     if (t->quiet < QUIET_PASSES && t->passes < MOST_PASSES) {
         return t->quiet > 0 ? now : now + NAP_NS;
     }
@@ -504,24 +584,27 @@ static void *run(void *arg) {
     struct pollfd all[ALL];
     pace paces[CQ_DOOR_CONNECTIONS];
     telling classes = { 0 };
+    looks at = { 0 };
     uint64_t refused = 0;
-    bool takes = true;
+    bool takes = true, has_come = true;
     for (size_t i = 0; i < CQ_DOOR_CONNECTIONS; i++) {
         paces[i] = (pace){ NEVER, 0, 0 };
     }
+    prctl(PR_SET_TIMERSLACK, SLACK_NS);
     s->paces = paces;
     list_sockets(s, takes, all);
     while (take_orders(s, all[WAKER].revents & POLLIN, &classes)) {
         bool moved = serve_all(s, all), is_refused = takes && all[LISTENER].revents && !take_in(s);
         drop_silent(s);
+        look_for_stops(s, s->is_for_debuggers && awaits(at.due, now_ns()));
         uint64_t deadline = tick(s);
         bool wrote = write_all(s);
         wake_resumed(s);
         refused = is_refused ? now_ns() : refused;
         takes = (takes && !is_refused) || moved || wrote || now_ns() - refused >= REFUSED_NS;
         list_sockets(s, takes, all);
-        uint64_t pass = next_pass(s, &classes, deadline), until = next_time(s, deadline, takes, refused);
-        rest(all, wrote || is_refused ? 0 : pass < until ? pass : until);
+        uint64_t pass = next_pass(s, &classes, deadline), until = next_time(s, next_look(&at, has_come, deadline), takes, refused);
+        has_come = rest(all, wrote || is_refused ? 0 : earlier(pass, until));
     }
     return NULL;
 }
@@ -607,6 +690,9 @@ static bool start(server *s) {
     pthread_sigmask(SIG_SETMASK, &kept, NULL);
     errno = failed ? failed : errno;
     s->runs = !failed;
+    if (s->runs) {
+        add_server(s);
+    }
     return s->runs;
 }
 
@@ -755,6 +841,7 @@ uint32_t cq_serve_end(cq_server *in) {
     if (s->runs) {
         end_thread(s);
         s->runs = false;
+        remove_server(s);
         close_all(s);
     }
     return s->door.kind != 0 ? close_door(s) : CQ_OK;

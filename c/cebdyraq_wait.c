@@ -18,6 +18,7 @@
  * has let all threads go, also if its time was over. */
 #define _GNU_SOURCE
 #include "cebdyraq_wait.h"
+#include "cebdyraq_servers.h"
 
 #include <errno.h>
 #include <linux/futex.h>
@@ -297,9 +298,18 @@ static void wake(cq_sleepers *among, uint32_t bits) {
     errno = kept;
 }
 
+/* It is NULL in a program that has no server. */
+#pragma weak cebdyraq_wake_servers
+
+/* Wakes agents by these bits, and servers that look for stops, which sleep in poll. */
+static void wake_for_stop(cq_signal *signal, uint32_t bits) {
+    wake(&signal->agents, bits);
+    if (cebdyraq_wake_servers) cebdyraq_wake_servers(signal);
+}
+
 void cq_wake(cq_signal *signal) {
     wake(&signal->threads, FUTEX_BITSET_MATCH_ANY);
-    wake(&signal->agents, FUTEX_BITSET_MATCH_ANY);
+    wake_for_stop(signal, FUTEX_BITSET_MATCH_ANY);
 }
 
 /* The code of a call by which a thread may have handed over. If it has, callers that wait for its answers go on. */
@@ -418,7 +428,7 @@ static uint32_t stop_ended(cq_thread *thread) {
 
 uint32_t cq_wait_stop(cq_thread *thread, cq_signal *signal) {
     uint32_t code = cq_wait_block(thread, signal, CQ_PARK);
-    wake(&signal->agents, COMINGS);
+    wake_for_stop(signal, COMINGS);
     if (code != CQ_OK) return code;
     waiter w = begin_own(thread, signal, FOREVER);
     while (again(&w)) w.code = stop_ended(thread);

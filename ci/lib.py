@@ -37,6 +37,8 @@ OBJECTS = {
     "cebdyraq_wait": ("cebdyraq_wait",),
     "cebdyraq_serve": ("cebdyraq_serve", "cebdyraq_listen", "cebdyraq_peer"),
 }
+# The name that two of them share beside those of the headers. The shared library does not export it.
+SHARED = "cebdyraq_wake_servers"
 FLAGS = ("-std=c11", "-O2", "-g", "-fPIC", "-Wall", "-Wextra", "-Werror", f"-ffile-prefix-map={TOP}/=")
 PKG_CONFIG = """prefix=${{pcfiledir}}/../..
 includedir=${{prefix}}/include
@@ -66,11 +68,12 @@ def compiled(name, room):
 
 
 def joined(name, parts, room):
-    """One object of several, in which only cq_ names are global."""
+    """One object of several, in which only cq_ names are global, and the one that objects share."""
     made = room / f"{name}.o"
     run(*words("CC", "cc"), "-nostdlib", "-r", *parts, "-o", made)
     # (the partial link makes LLVM's table of addresses stale)
-    run(*words("OBJCOPY", "objcopy"), "--wildcard", "--keep-global-symbol=cq_*", "--remove-section=.llvm_addrsig", made)
+    kept = [f"--keep-global-symbol={name}" for name in ("cq_*", SHARED)]
+    run(*words("OBJCOPY", "objcopy"), "--wildcard", *kept, "--remove-section=.llvm_addrsig", made)
     return made
 
 

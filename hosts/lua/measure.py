@@ -11,6 +11,9 @@ of the time on processors.
 
 With --stops a debugger is attached, and has a breakpoint in another script, or in a function of the script that runs once.
 
+With --hits a debugger has a breakpoint in a function that is called all the time. The table has the clock's microseconds for a hit
+that JDWP's Count counts, and for one that is told, after which the thread is resumed.
+
 With --callgrind valgrind counts the instructions of the first two ways, which no other work changes. The table has the
 least of five runs, since Lua's hashes differ from run to run. With both, it counts what it takes to read the stack
 once.
@@ -46,6 +49,7 @@ down(DEPTH)
 BREAKPOINT, SUSPENDS_ALL = 2, 2
 # A line of rests.lua that is not reached, and for each script a function that runs once or twice, and a line of it.
 REST_LINE = 6
+CALLED_LINE = 3
 COLD = {"nbody.lua": ("energy", 46), "fannkuch.lua": ("main", 64), "spectral_norm.lua": ("main", 49)}
 ASKED = {("attached", "without"): 1.02, ("sampled", "attached"): 1.03}
 
@@ -139,11 +143,14 @@ def count_deep():
             print(f"| {depth:,} | {times} | {count:,.0f} |", flush=True)
 
 
-def stopper(wire, script, method, line):
-    """Asks for a breakpoint at a line of a method."""
+def stopper(wire, script, method, line, count=None):
+    """Asks for a breakpoint at a line of a method, or for the last of so many hits."""
     class_ = wire.classes()[f"L{script};"][0]
     number = next(number for number, name in wire.methods(class_).items() if name == method)
-    wire.ask(15, 1, struct.pack(">BBi", BREAKPOINT, SUSPENDS_ALL, 1) + struct.pack(">BB", 7, 1) + jdwp.ids(class_, number, line))
+    modifiers = [struct.pack(">BB", 7, 1) + jdwp.ids(class_, number, line)]
+    if count is not None:
+        modifiers.append(struct.pack(">Bi", 1, count))
+    wire.ask(15, 1, struct.pack(">BBi", BREAKPOINT, SUSPENDS_ALL, len(modifiers)) + b"".join(modifiers))
 
 
 def time_with_debugger(name, place):
@@ -172,6 +179,41 @@ def measure_stops(rounds, names):
         print(f"| {name} | {none:.2f} | {elsewhere / none:.2f} | {own / none:.2f} |", flush=True)
 
 
+def await_event(wire):
+    while not wire.events:
+        wire.read()
+    wire.events.pop()
+
+
+def time_hits(count):
+    """The clock's microseconds for each of so many hits that are counted, and that are told."""
+    words = [CQLUA, "run", "--debug", "127.0.0.1:0", "--suspend", "calls.lua"]
+    with subprocess.Popen(words, cwd=SCRIPTS, stderr=subprocess.PIPE, text=True) as process:
+        with jdwp.Wire(int(re.search(r":(\d+)\n", process.stderr.readline())[1])) as wire:
+            await_event(wire)
+            wire.resume()
+            while "Lcalls;" not in wire.classes():
+                time.sleep(0.01)
+            times = [time.monotonic()]
+            stopper(wire, "calls", "add", CALLED_LINE, count)
+            await_event(wire)
+            times.append(time.monotonic())
+            stopper(wire, "calls", "add", CALLED_LINE)
+            for _ in range(count):
+                wire.resume()
+                await_event(wire)
+            times.append(time.monotonic())
+        process.kill()
+    return [1e6 * (after - before) / count for before, after in zip(times, times[1:])]
+
+
+def measure_hits(rounds):
+    counted, told = (sorted(times) for times in zip(*(time_hits(1000) for _ in range(rounds))))
+    print("\n| a hit | least, us | median, us |\n|---|---|---|")
+    for name, times in ("counted", counted), ("told, and the thread resumed", told):
+        print(f"| {name} | {times[0]:.1f} | {statistics.median(times):.1f} |")
+
+
 def table(title, results, which):
     heads = ["script", "without, s"] + [f"{above} / {below}" for above, below in ASKED]
     print(f"\n{title}:\n\n| " + " | ".join(heads) + " |\n" + "|---" * len(heads) + "|")
@@ -185,10 +227,13 @@ def main():
     parser.add_argument("--callgrind", action="store_true")
     parser.add_argument("--deep", action="store_true")
     parser.add_argument("--stops", action="store_true")
+    parser.add_argument("--hits", action="store_true")
     parser.add_argument("scripts", nargs="*", default=list(SIZES))
     options = parser.parse_args()
     if subprocess.run(["make", "-s", "-C", str(HERE)]).returncode:
         sys.exit(1)
+    if options.hits:
+        return measure_hits(options.rounds)
     if options.stops:
         return measure_stops(options.rounds, [name for name in options.scripts if name in COLD])
     if options.deep:

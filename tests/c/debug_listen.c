@@ -347,6 +347,7 @@ int main(void) {
     tells_variables();
     starts_suspended();
     tells_classes();
+    tells_stops();
     takes_own_users();
     return 0;
 }

@@ -40,4 +40,7 @@ void starts_suspended(void);
 /* debug_classes.c: threads that define a class, and run it once the debugger has been told of it. */
 void tells_classes(void);
 
+/* debug_stops.c: a thread that stops at a breakpoint time and again, and wakes the servers that look for it. */
+void tells_stops(void);
+
 #endif

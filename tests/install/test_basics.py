@@ -6,6 +6,7 @@ import unittest
 
 import header
 import installed
+import lib
 import man_page
 from installed import CC, CXX, HERE, TOP, VERSION, WARNINGS, compiled, files, flags, make, new_folder, pkg_config, prefix, run, wants
 
@@ -103,7 +104,7 @@ class Names(unittest.TestCase):
         self.assertEqual(names(run("nm", "-D", "--defined-only", prefix() / "lib/libcebdyraq.so")), set(header.functions()))
 
     def test_static_library_exports_the_headers_functions(self):
-        self.assertEqual(names(run("nm", "-g", "--defined-only", prefix() / "lib/libcebdyraq.a")), set(header.functions()))
+        self.assertEqual(names(run("nm", "-g", "--defined-only", prefix() / "lib/libcebdyraq.a")), {*header.functions(), lib.SHARED})
 
     def test_wait_half_is_linked_only_where_it_is_called(self):
         waiting = set(header.prototypes(header.text_of(header.HEADERS[1])))

@@ -134,6 +134,17 @@ class Malformed(unittest.TestCase):
                                          (6, 2, INVALID_LENGTH)):
                 self.assertEqual(wire.error_of(11, 6, ids(thread) + struct.pack(">ii", start, length)), error)
 
+    def test_frames_of_a_thread_that_runs(self):
+        """However often they are asked for in vain, they are there once the thread is suspended."""
+        with self.attached() as wire:
+            thread = wire.threads(2)["spins.lua"]
+            for _ in range(1000):
+                self.assertEqual(wire.error_of(11, 7, ids(thread)), THREAD_NOT_SUSPENDED)
+            for _ in range(100):
+                wire.suspend(thread)
+                self.assertGreater(len(wire.frames(thread)), 0)
+                wire.resume(thread)
+
     def test_reply_of_a_debugger_is_passed_over(self):
         with self.attached() as wire:
             wire.send(1, 1, b"whatever", flags=0x80)

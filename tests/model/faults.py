@@ -20,8 +20,8 @@ FAULTS = {
         ("    while (again(&w)) w.code = cq_end_stop(env, thread);\n    if (w.code == CQ_OK) wake(&signal->threads, bit_of(thread));",
          "    wake(&signal->threads, bit_of(thread));\n    while (again(&w)) w.code = cq_end_stop(env, thread);")],
     "wakes_before_the_hand_over": [
-        ("while (again(&w)) w.code = cq_native(thread);\n    return handed_over(&w, thread);",
-         "w.code = CQ_OK;\n    handed_over(&w, thread);\n    while (again(&w)) w.code = cq_native(thread);\n    return w.code;")],
+        ("    uint32_t code = cq_native(thread);\n    if (code != CQ_BUSY) return handed_over(thread, signal, code);",
+         "    handed_over(thread, signal, CQ_OK);\n    uint32_t code = cq_native(thread);\n    if (code != CQ_BUSY) return code;")],
     # Wakes of too few.
     "wrong_bit": [("        wake(&signal->threads, bit_of(call.thread));  /* it may return now */",
                    "        wake(&signal->threads, bit_of(call.thread + 1));")],
@@ -34,7 +34,7 @@ FAULTS = {
     "no_wake_at_traces_end": [("    cq_wake(signal);\n    if (code != CQ_OK) return code;", "    if (code != CQ_OK) return code;")],
     "no_wake_at_lost_traces_end": [("FOREVER);\n        cq_wake(signal);", "FOREVER);")],
     "no_wake_at_dispose": [("    if (w.code == CQ_OK) wake(&signal->threads, FUTEX_BITSET_MATCH_ANY);\n", "")],
-    "no_wake_at_stop": [("    wake(&signal->agents, COMINGS);\n    if (code != CQ_OK) return code;", "    if (code != CQ_OK) return code;"),
+    "no_wake_at_stop": [("    wake_for_stop(signal, COMINGS);\n    if (code != CQ_OK) return code;", "    if (code != CQ_OK) return code;"),
                         ("cq_reached(thread, method, location, stops);\n    return may_stop(&w, stops);",
                          "cq_reached(thread, method, location, stops);\n    return w.code;")],
     "no_wake_at_reached": [("cq_reached(thread, method, location, stops);\n    return may_stop(&w, stops);",
@@ -46,8 +46,8 @@ FAULTS = {
     "no_news_at_end_stop": [("bit_of(thread));\n    return came_or_went(&w);", "bit_of(thread));\n    return w.code;")],
     "no_wake_at_ensure_resumed": [(OK_WAKES_THREAD, "")],
     "list_wakes_nobody": [("    wake(&signal->threads, FUTEX_BITSET_MATCH_ANY);  /* those", "    /* those")],
-    "end_hands_over_silently": [("    came_or_went(&w);\n    return handed_over(&w, thread);", "    return came_or_went(&w);")],
-    "held_wakes_nobody": [("(w->code == CQ_OK || w->code == CQ_HELD)", "(w->code == CQ_OK)")],
+    "end_hands_over_silently": [("    came_or_went(&w);\n    return handed_over(thread, signal, w.code);", "    return came_or_went(&w);")],
+    "held_wakes_nobody": [("(code == CQ_OK || code == CQ_HELD)", "(code == CQ_OK)")],
     # CQ_BUSY that is not passed on.
     "full_though_not_discarded": [("return code == CQ_FULL && discarding == CQ_BUSY ? CQ_BUSY : code;", "(void)discarding;\n    return code;")],
 }
