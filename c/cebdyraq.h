@@ -40,7 +40,8 @@
  *   an interpreter's lock, may hand over for it, and the thread itself may come back by cq_back.
  * - No pointer is NULL, not even one to no frames. Each leads to memory of the size that is given, which no other argument
  *   of the call leads to.
- * - No function is called from a signal handler, or in the child of a fork from a process with threads.
+ * - No function is called from a signal handler, or in the child of a fork with a handle of the parent's. A child that makes a service of
+ *   its own, from handles that are zeros, may.
  *
  * MEMORY OF THE RUNTIME
  *

@@ -25,10 +25,11 @@ typedef union {
 _Static_assert(sizeof((listener){ 0 }.path) == sizeof((struct sockaddr_un){ 0 }.sun_path), "a path fits");
 
 void close_socket(int *socket) {
-    if (*socket >= 0) {
-        close(*socket);
-    }
+    int closed = *socket;
     *socket = -1;
+    if (closed >= 0) {
+        close(closed);
+    }
 }
 
 static bool read_port(const char *text, uint16_t *port) {

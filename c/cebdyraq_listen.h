@@ -21,7 +21,7 @@ uint32_t open_listener(listener *made, const char *address);
 /* Closes it, and removes the file of a Unix socket, unless another file has taken its place. */
 void close_listener(listener *of);
 
-/* Closes a socket, if there is one, and leaves -1. */
+/* Closes a socket, if there is one, and leaves -1. It is -1 before it is closed: a child of a fork closes what it finds. */
 void close_socket(int *socket);
 
 #endif

@@ -98,12 +98,12 @@ static void wake_thread(const server *s) {
 }
 
 /* ------------------------------------------------------------------------------------------------------------------
- * Looking for stops. A thread that reaches one wakes the servers that look for some.
+ * The servers that run: a thread that stops wakes those that look for stops, and the child of a fork forgets all.
  */
 
 static pthread_mutex_t of_servers = PTHREAD_MUTEX_INITIALIZER;
-static server *first_server;         /* of those that run */
-static uint32_t looking;             /* how many of them look for stops; it is changed with the lock */
+static server *first_server;
+static uint32_t looking;  /* how many of them look for stops; it is changed with the lock */
 
 static void set_looks(server *s, bool looks) {
     __atomic_fetch_add(&looking, (uint32_t)looks - (uint32_t)s->looks, __ATOMIC_SEQ_CST);
@@ -148,6 +148,39 @@ void cebdyraq_wake_servers(const cq_signal *signal) {
         }
     }
     pthread_mutex_unlock(&of_servers);
+}
+
+static void before_fork(void) {
+    pthread_mutex_lock(&of_servers);
+}
+
+static void in_parent(void) {
+    pthread_mutex_unlock(&of_servers);
+}
+
+/* Closes what a server of the parent has open, in this process alone. It is as one that never began. */
+static void forget(server *s) {
+    close_socket(&s->listener.socket);
+    close_socket(&s->waker);
+    for (size_t i = 0; i < CQ_DOOR_CONNECTIONS; i++) {
+        close_socket(&s->sockets[i]);
+        close_socket(&s->leaving[i]);
+    }
+    memset(s, 0, sizeof *s);
+}
+
+static void in_child(void) {
+    for (server *s = first_server, *next; s; s = next) {
+        next = s->next;
+        forget(s);
+    }
+    first_server = NULL;
+    looking = 0;
+    pthread_mutex_unlock(&of_servers);
+}
+
+static void prepare_for_forks(void) {
+    pthread_atfork(before_fork, in_parent, in_child);
 }
 
 /* ------------------------------------------------------------------------------------------------------------------
@@ -679,7 +712,9 @@ static bool has_room_for_one(const server *s) {
 
 /* Starts the thread, to which no signal of the program's comes. */
 static bool start(server *s) {
+    static pthread_once_t prepared = PTHREAD_ONCE_INIT;
     sigset_t all, kept;
+    pthread_once(&prepared, prepare_for_forks);
     s->waker = eventfd(0, EFD_CLOEXEC | EFD_NONBLOCK);
     if (s->waker < 0 || !has_room_for_one(s)) {
         return false;

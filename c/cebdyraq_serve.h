@@ -293,6 +293,9 @@ uint32_t cq_close_door(cq_door *door) CQ_MUST_USE;
 /* ------------------------------------------------------------------------------------------------------------------
  * A server: a door, its sockets, and one thread, which sleeps in poll.
  *
+ * In the child of a fork no server runs: its handle is zeros there, what the server had open is closed, and a debugger or client of the
+ * parent's notices nothing.
+ *
  * While a call has no answer, the thread looks for it 50 us later, and then each time after twice as long, up to 0.8 ms. While a
  * debugger has a breakpoint or a step, it also looks as soon as a thread stops by cq_wait_stop, or cq_wake is called.
  */

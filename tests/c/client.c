@@ -10,28 +10,33 @@
 
 const char *server_path;
 
+static int dial_at(int family, const void *at, socklen_t size) {
+    struct timeval patience = { 10, 0 };
+    int made = socket(family, SOCK_STREAM, 0);
+    SAME(connect(made, at, size), 0);
+    SAME(setsockopt(made, SOL_SOCKET, SO_RCVTIMEO, &patience, sizeof patience), 0);
+    return made;
+}
+
 static int dial_path(const char *path) {
     struct sockaddr_un at = { .sun_family = AF_UNIX };
-    int made = socket(AF_UNIX, SOCK_STREAM, 0);
     snprintf(at.sun_path, sizeof at.sun_path, "%s", path);
-    SAME(connect(made, (struct sockaddr *)&at, sizeof at), 0);
-    return made;
+    return dial_at(AF_UNIX, &at, sizeof at);
 }
 
 static int dial_port(uint16_t port) {
     struct sockaddr_in at = { .sin_family = AF_INET, .sin_port = htons(port), .sin_addr = { htonl(INADDR_LOOPBACK) } };
-    int made = socket(AF_INET, SOCK_STREAM, 0);
-    SAME(connect(made, (struct sockaddr *)&at, sizeof at), 0);
-    return made;
+    return dial_at(AF_INET, &at, sizeof at);
+}
+
+int dial_to(uint16_t port) {
+    return port == 0 ? dial_path(server_path) : dial_port(port);
 }
 
 int dial(const cq_server *server) {
-    struct timeval patience = { 10, 0 };
     uint16_t port = 0;
     OK(cq_server_port(server, &port));
-    int made = port == 0 ? dial_path(server_path) : dial_port(port);
-    SAME(setsockopt(made, SOL_SOCKET, SO_RCVTIMEO, &patience, sizeof patience), 0);
-    return made;
+    return dial_to(port);
 }
 
 void say(int socket, const char *text) {

@@ -18,6 +18,9 @@ typedef struct {
 int dial(const cq_server *server);
 extern const char *server_path;
 
+/* A connection to this port, or at the path for port 0. */
+int dial_to(uint16_t port);
+
 /* Sends all of a text. */
 void say(int socket, const char *text);
 

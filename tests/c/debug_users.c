@@ -15,6 +15,14 @@ enum { OVERFLOW = 65534, OWN = 65533, ANOTHER = 65532, MANY = 50 };
 
 typedef bool trying(void);
 
+static uint16_t known_port;  /* of the parent's server, which its children know no more */
+
+static uint16_t port_now(void) {
+    uint16_t port = known_port;
+    MAYBE(cq_server_port(&debugged, &port));
+    return port;
+}
+
 static bool greets(int socket) {
     bool greeted = is_greeted(socket);
     close(socket);
@@ -22,16 +30,13 @@ static bool greets(int socket) {
 }
 
 static bool dials(void) {
-    return greets(dial(&debugged));
+    return greets(dial_to(port_now()));
 }
 
 /* By a socket of IPv6. */
 static bool dials_six(struct in6_addr host) {
-    struct sockaddr_in6 at = { .sin6_family = AF_INET6, .sin6_addr = host };
-    uint16_t port = 0;
+    struct sockaddr_in6 at = { .sin6_family = AF_INET6, .sin6_port = htons(port_now()), .sin6_addr = host };
     int made = socket(AF_INET6, SOCK_STREAM, 0);
-    OK(cq_server_port(&debugged, &port));
-    at.sin6_port = htons(port);
     SAME(connect(made, (struct sockaddr *)&at, sizeof at), 0);
     return greets(made);
 }
@@ -51,7 +56,7 @@ static bool asks_and_vanishes(void) {
     int sockets[MANY];
     make_request(&suspend, 7, 1, 8, "");
     for (size_t i = 0; i < MANY; i++) {
-        sockets[i] = dial(&debugged);
+        sockets[i] = dial_to(port_now());
     }
     for (size_t i = 0; i < MANY; i++) {
         say(sockets[i], HANDSHAKE);
@@ -67,6 +72,7 @@ static char found_by(uid_t user, char (*look)(trying *what), trying *what) {
     char found = 0;
     int ends[2];
     SAME(pipe(ends), 0);
+    MAYBE(cq_server_port(&debugged, &known_port));
     fflush(NULL);
     pid_t child = fork();
     CHECK(child >= 0);

@@ -358,6 +358,7 @@ int main(int words, char **unused) {
     keeps_its_bounds();
     if (words == 1) closes_slow_readers();
     end_served();
+    forgets_in_a_child();
     serves_with_few_files();
     serves_a_path();
     leaves_the_path_to_a_successor();

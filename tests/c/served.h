@@ -17,6 +17,9 @@ void end_served(void);
 /* serve_wrong.c: each request that is refused. */
 void refuses_what_is_wrong(void);
 
+/* serve_fork.c: children of a fork, in which no server of the parent's runs. */
+void forgets_in_a_child(void);
+
 /* serve_few.c: a process that may have few files open. */
 void serves_with_few_files(void);
 

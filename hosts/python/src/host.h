@@ -121,12 +121,6 @@ struct place {
 };
 struct place place_of(struct thread *t, PyThreadState *holder);  /* `holder` held the GIL when the watcher asked for it */
 
-/* sockets.c: closes in the child of a fork what the doors listen at. */
-void sockets_before(void);
-void sockets_after(void);
-void sockets_forget(void);  /* the doors are closed, and their numbers may be others' */
-void sockets_close(void);
-
 /* variables.c */
 extern const cq_variables host_variables;
 

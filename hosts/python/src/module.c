@@ -39,10 +39,7 @@ static PyObject *define(PyObject *module, PyObject *codes) {
 
 /* ---- Start. */
 
-static void in_child(void) {
-    host.off = true;
-    sockets_close();
-}
+static void in_child(void) { host.off = true; }
 
 static PyObject *fail(const char *call, uint32_t code) {
     if (code == CQ_SYSTEM) return PyErr_SetFromErrno(PyExc_OSError);
@@ -84,10 +81,8 @@ static PyObject *start(PyObject *module, PyObject *arguments) {
     thread_begin("MainThread", 10);
     if (own_thread == NULL) return PyErr_NoMemory();
     if (watch_start(debug != NULL) < 0) return NULL;
-    sockets_before();
     const char *call = open_doors(program, path, serve, debug, suspend, ports, &code);
     PyObject *result = call != NULL ? fail(call, code) : Py_BuildValue("HH", ports[0], ports[1]);
-    sockets_after();
     return result;
 }
 
@@ -104,7 +99,6 @@ static PyObject *await_debugger(PyObject *module, PyObject *none) {
 static uint32_t end_servers(void) {
     cq_serve_end(&host.debugger);
     cq_serve_end(&host.http);
-    sockets_forget();
     return CQ_OK;
 }
 
