@@ -561,15 +561,18 @@ static uint64_t next_time(const server *s, uint64_t deadline, bool takes, uint64
  *
  * A tick tells at most 4,096 classes, and a thread that is to be suspended may be in use. The door says that such things are left only by
  * a deadline that comes soon after a tick. So passes go on until two ticks in a row have no such deadline: with the first of them all
- * classes are told, and at the second no suspension is left. While there is a breakpoint or a step each deadline comes soon. So there are
- * MOST_PASSES at the most. */
+ * classes are told, and at the second no suspension is left. While there is a breakpoint or a step each deadline comes soon. So if one
+ * came soon before, there are FEW_PASSES. Otherwise they go on for as long as the door waits for a suspension. */
 typedef struct {
     uint64_t asked;   /* by the calls up to this one, or 0 for none */
+    uint64_t until;   /* how long passes go on, at most, if there were FEW_PASSES */
     uint32_t passes;
     uint32_t quiet;   /* the last of them, whose deadlines did not come soon */
+    bool awaits;      /* the last deadline came soon */
 } telling;
 
-enum { QUIET_PASSES = 2, MOST_PASSES = 8 };
+enum { QUIET_PASSES = 2, FEW_PASSES = 8 };
+static const uint64_t PASSES_NS = 1000000000;
 
 /* Takes what others have asked of the thread, after it was woken or not. Returns whether it goes on. */
 static bool take_orders(server *s, bool is_woken, telling *t) {
@@ -580,6 +583,7 @@ static bool take_orders(server *s, bool is_woken, telling *t) {
     bool goes_on = !s->is_ending;
     if (t->asked == 0 && s->asked != s->told) {
         t->asked = s->asked;
+        t->until = t->awaits ? 0 : now_ns() + PASSES_NS;
     }
     pthread_mutex_unlock(&s->lock);
     return goes_on;
@@ -598,15 +602,16 @@ static bool note_told(server *s, uint64_t asked) {
 /* Counts a pass. Returns when the next one is to be, or NEVER if nobody asks for one. */
 static uint64_t next_pass(server *s, telling *t, uint64_t deadline) {
     uint64_t now = now_ns(), asked = t->asked;
+    t->awaits = awaits(deadline, now);
     if (asked == 0) {
         return NEVER;
     }
     t->passes++;
-    t->quiet = awaits(deadline, now) ? 0 : t->quiet + 1;
-    if (t->quiet < QUIET_PASSES && t->passes < MOST_PASSES) {
+    t->quiet = t->awaits ? 0 : t->quiet + 1;
+    if (t->quiet < QUIET_PASSES && (t->passes < FEW_PASSES || now < t->until)) {
         return t->quiet > 0 ? now : now + NAP_NS;
     }
-    *t = (telling){ 0 };
+    *t = (telling){ .awaits = t->awaits };
     return note_told(s, asked) ? now : NEVER;
 }
 
