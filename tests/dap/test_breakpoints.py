@@ -43,10 +43,14 @@ class Lines(Case):
             self.assertEqual(again[1], six)
             self.assertNotIn(again[0], (five, six))
             client.set_lines(CALLS, 6)
-            for _ in range(2):
+            stop = client.wait("stopped")
+            if stop["hitBreakpointIds"] == [five]:  # before it was taken out
+                client.go(stop["threadId"])
                 stop = client.wait("stopped")
+            for _ in range(2):
                 self.assertEqual((stop["hitBreakpointIds"], client.where(stop["threadId"])), ([six], ("add", 6)))
                 client.go(stop["threadId"])
+                stop = client.wait("stopped")
 
     def test_none_are_left(self):
         """After the last one is taken out, the thread runs on, and a pause finds it."""
