@@ -20,6 +20,7 @@ pub record KeepsOthers (old new : Metrics) : Type 0 where
   pub hand_overs : new.hand_overs ≡ old.hand_overs
   pub answers : new.answers ≡ old.answers
   pub calls_out : new.calls_out ≡ old.calls_out
+  pub oldest_call : new.oldest_call ≡ old.oldest_call
   pub profiles : new.profiles ≡ old.profiles
   pub ticks : new.ticks ≡ old.ticks
   pub missed : new.missed ≡ old.missed
@@ -28,9 +29,9 @@ pub record KeepsOthers (old new : Metrics) : Type 0 where
   pub unanswered : new.unanswered ≡ old.unanswered
   pub no_room : new.no_room ≡ old.no_room
 
--- the same with so many calls that are out
-abbrev pub with_calls : Metrics → ℕ → Metrics
-with_calls m n = record {
+-- the same with so many calls that are out, and the age of the oldest one
+abbrev pub with_calls : Metrics → ℕ → ℕ → Metrics
+with_calls m n oldest = record {
   threads = m.threads;
   suspended = m.suspended;
   attached = m.attached;
@@ -41,6 +42,7 @@ with_calls m n = record {
   suspended_time = m.suspended_time;
   answers = m.answers;
   calls_out = n;
+  oldest_call = oldest;
   profiles = m.profiles;
   ticks = m.ticks;
   missed = m.missed;

@@ -124,13 +124,17 @@ answer_lines h =
     ∷ plain_line (codes "answer_seconds") (codes "_sum") (seconds h.sum)
     ∷ plain_line (codes "answer_seconds") (codes "_count") (decimal h.count) ∷ []))
 
+abbrev pub call_lines : Metrics → List (List ℕ)
+call_lines m =
+    single (codes "calls_out") gauge (codes "Calls that were posted and not collected.") (decimal m.calls_out)
+    ++ single (codes "oldest_call_seconds") gauge (codes "Age of the oldest call that has no answer, 0 if there is none.") (seconds m.oldest_call)
+
 abbrev pub profile_lines : Metrics → List (List ℕ)
 profile_lines m =
-    single (codes "calls_out") gauge (codes "Calls that were posted and not collected.") (decimal m.calls_out)
-    ++ (single (codes "profiles_total") counter (codes "Profiles that were begun.") (decimal m.profiles)
+    single (codes "profiles_total") counter (codes "Profiles that were begun.") (decimal m.profiles)
     ++ (single (codes "profile_ticks_total") counter (codes "Ticks of all profiles.") (decimal m.ticks)
     ++ (single (codes "profile_ticks_missed_total") counter (codes "Ticks that came too late to be taken.") (decimal m.missed)
-    ++ single (codes "profile_samples_no_room_total") counter (codes "Samples for which a profile had no room.") (decimal m.no_room))))
+    ++ single (codes "profile_samples_no_room_total") counter (codes "Samples for which a profile had no room.") (decimal m.no_room)))
 
 abbrev pub outcomes : Labelled
 outcomes = labelled (codes "profile_samples_total") [] (codes "outcome") unit.Count
@@ -155,6 +159,7 @@ metrics_lines version m requests connections =
     ++ (life_lines m
     ++ (time_lines m
     ++ (answer_lines m.answers
+    ++ (call_lines m
     ++ (profile_lines m
     ++ (sample_lines m
-    ++ door_lines requests connections))))))
+    ++ door_lines requests connections)))))))

@@ -1,7 +1,8 @@
 -- The threads that were met.
-use Rattle.std.specs.Prelude.{ℕ, ◌+◌, ◌&&◌, ◌||◌, ◌==◌, Bool, false, not, is_some, List, Option, Some, None, min, slice_get, if◌then◌else◌}
+use Rattle.std.specs.Prelude.{ℕ, ◌+◌, ◌-◌, ◌&&◌, ◌||◌, ◌==◌, Bool, false, not, is_some, List, [], ◌∷◌, Option, Some, None, max, min, slice_get, if◌then◌else◌}
 use Rattle.ti_http.specs.declared.target.Labels.{Labels}
 use Rattle.ti_monitor.specs.declared.label.Label.{Label}
+use Rattle.ti_monitor.specs.declared.watched.Out.{Out}
 use Rattle.ti_monitor.specs.declared.watched.Watched.{Watched}
 use Rattle.ti_monitor.specs.Labels.{label, label_only}
 
@@ -32,6 +33,16 @@ is_done w = (w.state == 8) || w.gone
 -- a call of the monitor is out at it
 abbrev pub has_call : Watched → Bool
 has_call w = is_some w.out
+
+-- how long a call has been out, and 0 if there is none
+abbrev pub age_of : ℕ → Option Out → ℕ
+age_of now None = 0
+age_of now (Some out) = now - out.since
+
+-- how long the oldest call that is out at one of these threads has been, and 0 if there is none
+abbrev pub oldest_call : ℕ → List Watched → ℕ
+oldest_call now [] = 0
+oldest_call now (w ∷ watched) = max (age_of now w.out) (oldest_call now watched)
 
 -- no call of the monitor is out at the thread at a place, which is there
 abbrev pub is_free_one : Option Watched → Bool

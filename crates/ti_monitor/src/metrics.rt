@@ -94,6 +94,27 @@ fn count_held(watched: &[Watched]) -> u64
     count
 }
 
+/// How long the call that is out at a thread has been, in nanoseconds. 0 if none is.
+fn age_of(one: &Watched, now: u64) -> u64
+    ensures { result ≡ age_of now one.now.out }
+{
+    match one.out {
+        Some(out) => now.saturating_sub(out.since),
+        None => 0,
+    }
+}
+
+/// How long the oldest call that is out at a thread has been, in nanoseconds. 0 if none is.
+fn oldest_call(watched: &[Watched], now: u64) -> u64
+    ensures { result ≡ oldest_call now watched.now }
+{
+    let mut oldest = 0;
+    for one in watched {
+        oldest = oldest.max(age_of(one, now));
+    }
+    oldest
+}
+
 /// What a monitor has counted since it began. A counter stays at 2^64 - 1 once it is there.
 #[derive(Clone, Copy, Debug, PartialEq, Eq)]
 pub struct Metrics {
@@ -116,6 +137,8 @@ pub struct Metrics {
     pub answers: Histogram,
     /// Calls of the monitor that were posted and not collected.
     pub calls_out: u64,
+    /// How long the oldest of them has been out, in nanoseconds. 0 if none is.
+    pub oldest_call: u64,
     /// Profiles that were begun.
     pub profiles: u64,
     /// Ticks of all profiles, and those that came too late to be taken.
@@ -143,6 +166,7 @@ impl Metrics {
             suspended_time: 0,
             answers: Histogram::new(),
             calls_out: 0,
+            oldest_call: 0,
             profiles: 0,
             ticks: 0,
             missed: 0,
@@ -178,9 +202,9 @@ impl Metrics {
         self.no_room = self.no_room.saturating_add(count);
     }
 
-    /// Takes how many calls are out.
-    pub(crate) fn take_calls(&mut self, watched: &[Watched])
-        ensures { self.new ≡ with_calls self.old (count_by has_call watched.now) }
+    /// Takes how many calls are out, and how long the oldest one has been.
+    pub(crate) fn take_calls(&mut self, watched: &[Watched], now: u64)
+        ensures { self.new ≡ with_calls self.old (count_by has_call watched.now) (oldest_call now watched.now) }
     {
         let mut count = 0;
         for one in watched {
@@ -189,10 +213,11 @@ impl Metrics {
             }
         }
         self.calls_out = count;
+        self.oldest_call = oldest_call(watched, now);
     }
 }
 
 ghost use Rattle.std.specs.Prelude.{◌≡◌, ◌<◌, ℕ, count_by, get_or};
 ghost use Rattle.ti_monitor.specs.Counters.{CountsStates, KeepsOthers, with_calls};
-ghost use Rattle.ti_monitor.specs.Watching.{has_call, is_held, is_in_state};
+ghost use Rattle.ti_monitor.specs.Watching.{age_of, has_call, is_held, is_in_state, oldest_call};
 ghost use Rattle.ti_monitor.specs.Histograms.{added, bucket_with};

@@ -103,6 +103,7 @@ impl Monitor {
     pub fn tick(&mut self, now: u64)
         ensures samples { Samples now (sampling self.old.agent self.old.watched.items self.old.readings) (sampling self.new.agent self.new.watched.items self.new.readings) }
         ensures calls { self.new.metrics.calls_out ≡ count_by has_call self.new.watched.items }
+        ensures oldest { self.new.metrics.oldest_call ≡ oldest_call now self.new.watched.items }
         ensures orders { orders_of self.new.readings.running.items ≡ orders_of self.old.readings.running.items }
         ensures begun { self.new.begun ≡ self.old.begun }
         ensures program { self.new.program ≡ self.old.program }
@@ -129,7 +130,7 @@ impl Monitor {
             now,
         );
         self.readings.end_all(&self.watched, &mut self.metrics, now);
-        self.metrics.take_calls(&self.watched);
+        self.metrics.take_calls(&self.watched, now);
     }
 
     /// Meets threads, if that is due or there is news. False if it could not, since the roster is in use.
@@ -324,4 +325,4 @@ ghost use Rattle.ti_monitor.specs.Asking.{ProbesAll};
 ghost use Rattle.ti_monitor.specs.Counters.{CountsStates, KeepsOthers};
 ghost use Rattle.ti_monitor.specs.Monitors.{AreCountsOf, Begins, HasNoRoom, IsWithout, MayBeWithout, MayEnable, begun_in, has_ended, orders_of, reading_in};
 ghost use Rattle.ti_monitor.specs.Sampling.{EndsOne, Samples, sampling};
-ghost use Rattle.ti_monitor.specs.Watching.{has_call};
+ghost use Rattle.ti_monitor.specs.Watching.{has_call, oldest_call};

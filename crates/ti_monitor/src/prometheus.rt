@@ -149,9 +149,9 @@ fn push_answers(out: &mut Vec<u8>, answers: &Histogram) -> Result<(), AllocError
     push_plain(out, name, "_count", Unit::Count, answers.count)
 }
 
-/// Appends the metrics of profiles, but for what came of their samples. The error is lack of memory.
-fn push_profiles(out: &mut Vec<u8>, metrics: &Metrics) -> Result<(), AllocError>
-    ensures { OnOk result (out.new.items ≡ out.old.items ++ text_of (profile_lines metrics.now)) }
+/// Appends the metrics of calls that have no answer. The error is lack of memory.
+fn push_calls(out: &mut Vec<u8>, metrics: &Metrics) -> Result<(), AllocError>
+    ensures { OnOk result (out.new.items ≡ out.old.items ++ text_of (call_lines metrics.now)) }
 {
     push_single(
         out,
@@ -161,6 +161,20 @@ fn push_profiles(out: &mut Vec<u8>, metrics: &Metrics) -> Result<(), AllocError>
         Unit::Count,
         metrics.calls_out,
     )?;
+    push_single(
+        out,
+        "oldest_call_seconds",
+        GAUGE,
+        "Age of the oldest call that has no answer, 0 if there is none.",
+        Unit::Nanos,
+        metrics.oldest_call,
+    )
+}
+
+/// Appends the metrics of profiles, but for what came of their samples. The error is lack of memory.
+fn push_profiles(out: &mut Vec<u8>, metrics: &Metrics) -> Result<(), AllocError>
+    ensures { OnOk result (out.new.items ≡ out.old.items ++ text_of (profile_lines metrics.now)) }
+{
     push_single(
         out,
         "profiles_total",
@@ -254,6 +268,7 @@ pub fn metrics_text(
     push_lives(out, metrics)?;
     push_times(out, metrics)?;
     push_answers(out, &metrics.answers)?;
+    push_calls(out, metrics)?;
     push_profiles(out, metrics)?;
     push_samples(out, metrics)?;
     push_door(out, requests, connections)
@@ -261,4 +276,4 @@ pub fn metrics_text(
 
 ghost use Rattle.std.specs.Prelude.{◌≡◌, ◌++◌, OnOk};
 ghost use Rattle.ti_monitor.specs.Texts.{text_of};
-ghost use Rattle.ti_monitor.specs.Exposition.{answer_lines, build_lines, door_lines, life_lines, metrics_lines, profile_lines, sample_lines, state_lines, thread_lines, time_lines};
+ghost use Rattle.ti_monitor.specs.Exposition.{answer_lines, build_lines, call_lines, door_lines, life_lines, metrics_lines, profile_lines, sample_lines, state_lines, thread_lines, time_lines};
