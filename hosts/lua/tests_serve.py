@@ -49,6 +49,8 @@ class Serve(WithFolder):
             self.assertEqual(frames["work.lua"][-1], ("main", work))
             self.assertEqual(frames["sleep.lua"][0], ("sleep", None), "a C function has no file")
             self.assertEqual(threads["sleep.lua"]["state"], "sleeping")
+            text = get(connection, "/threads")[1].decode()
+            self.assertRegex(text, r'(?m)^"sleep\.lua" #\d+ prio=\d+ sleeping\n    at sleep \(Native Method\)$')
             for frame in threads["work.lua"]["frames"]:
                 self.assertTrue(frame["line"] and WORKER.splitlines()[frame["line"] - 1].strip(), frame)
             status, profile = get(connection, "/debug/pprof/profile?seconds=1&rate=200")

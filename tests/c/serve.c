@@ -109,7 +109,7 @@ static void shows_stacks(void) {
     CHECK(has_field(&got, "Content-Type: text/plain; charset=utf-8"));
     CHECK(has_field(&got, "X-Content-Type-Options: nosniff"));
     CHECK(has_text(&got, "\"computes \\\"all\\\"\" #0 prio=5 runnable\n    at inner (work.x:21)\n    at outer (work.x:12)\n\n"));
-    CHECK(has_text(&got, "\"sleeps\" #1 prio=5 sleeping\n    at sleep (work.x)\n\n"));
+    CHECK(has_text(&got, "\"sleeps\" #1 prio=5 sleeping\n    at sleep (Native Method)\n\n"));
     forget(&got);
     get(&server, "/threads.json", &got);
     CHECK(has_field(&got, "Content-Type: application/json"));

@@ -10,6 +10,7 @@ use Rattle.ti_pprof.specs.declared.names.Names.{Names}
 use Rattle.ti_pprof.specs.declared.stacks.Frame.{Frame}
 use Rattle.ti_pprof.specs.declared.stacks.Node.{Node}
 use Rattle.ti_pprof.specs.declared.table.Row.{Row}
+use Rattle.ti_monitor.specs.declared.reading.Details.{Details}
 use Rattle.ti_monitor.specs.declared.reading.Reading.{Reading}
 use Rattle.ti_monitor.specs.declared.reading.Seen.{Seen}
 use Rattle.ti_monitor.specs.Json.{frame_data, frames_data, function_data, line_data, named_data, state_data, suspended_data, thread_data, threads_at, threads_data}
@@ -52,12 +53,12 @@ thread_plain name seen s frames h =
     ∙ ap (λ b. b || (has_float (state_data s) || (has_float (suspended_data s) || false))) (integer_plain seen.priority)
     ∙ states_plain s
 
-threads_plain : (names : Names) (nodes : List Node) (rows : List Row) (place : ℕ) (seen : List Seen) → items_have_float (items_of (threads_at names nodes rows place seen)) ≡ false
-threads_plain names nodes rows place [] = refl
-threads_plain names nodes rows place (one ∷ seen) =
-    ap (λ b. b || items_have_float (items_of (threads_at names nodes rows (place + 1) seen)))
-    (thread_plain (unwrap_or (text_at names.threads.items place) unknown) one (state_of names.states.items (row_of rows place)) (frames_data names.functions.items (frames_in nodes (row_of rows place))) (items_plain names.functions.items (frames_in nodes (row_of rows place))))
-    ∙ threads_plain names nodes rows (place + 1) seen
+threads_plain : (names : Names) (details : Details) (nodes : List Node) (rows : List Row) (place : ℕ) (seen : List Seen) → items_have_float (items_of (threads_at names details nodes rows place seen)) ≡ false
+threads_plain names details nodes rows place [] = refl
+threads_plain names details nodes rows place (one ∷ seen) =
+    ap (λ b. b || items_have_float (items_of (threads_at names details nodes rows (place + 1) seen)))
+    (thread_plain (unwrap_or (text_at details.threads.items place) unknown) one (state_of names.states.items (row_of rows place)) (frames_data names.functions.items (frames_in nodes (row_of rows place))) (items_plain names.functions.items (frames_in nodes (row_of rows place))))
+    ∙ threads_plain names details nodes rows (place + 1) seen
 
 pub all_plain : (r : Reading) → has_float (threads_data r) ≡ false
-all_plain r = ap (λ b. b || false) (threads_plain r.names r.counts.trie.nodes.keys r.counts.table.rows.keys 0 r.seen.items)
+all_plain r = ap (λ b. b || false) (threads_plain r.names r.details r.counts.trie.nodes.keys r.counts.table.rows.keys 0 r.seen.items)

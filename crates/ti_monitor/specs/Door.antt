@@ -15,7 +15,7 @@ use Rattle.ti_monitor.specs.declared.reading.Order.{Order}
 use Rattle.ti_monitor.specs.declared.reading.Order.TheVariants as order
 use Rattle.ti_monitor.specs.declared.reading.Reading.{Reading}
 use Rattle.ti_monitor.specs.Json.{threads_data}
-use Rattle.ti_monitor.specs.Texts.{text_of}
+use Rattle.ti_monitor.specs.Texts.{plain_json, text_of}
 use Rattle.ti_monitor.specs.Threads.{groups_lines, threads_lines}
 
 -- JVM TI's numbers, and one of this service
@@ -70,7 +70,7 @@ abbrev pub body_of : Target → Reading → List ℕ
 body_of target.Index r = text_of (threads_lines r)
 body_of target.Metrics r = text_of (threads_lines r)
 body_of target.Threads r = text_of (threads_lines r)
-body_of target.ThreadsJson r = compact_text (threads_data r)
+body_of target.ThreadsJson r = plain_json (compact_text (threads_data r))
 body_of (target.ThreadsProfile d) r = body_in d r
 body_of (target.Profile seconds rate labels) r = profile_of r
 

@@ -9,6 +9,7 @@ use Rattle.ti_pprof.specs.declared.names.Names.{Names}
 use Rattle.ti_pprof.specs.declared.stacks.Frame.{Frame}
 use Rattle.ti_pprof.specs.declared.stacks.Node.{Node}
 use Rattle.ti_pprof.specs.declared.table.Row.{Row}
+use Rattle.ti_monitor.specs.declared.reading.Details.{Details}
 use Rattle.ti_monitor.specs.declared.reading.Reading.{Reading}
 use Rattle.ti_monitor.specs.declared.reading.Seen.{Seen}
 use Rattle.ti_monitor.specs.Stacks.{frames_in, row_of, state_of, text_at}
@@ -57,17 +58,18 @@ thread_data name seen state frames =
     (member (codes "suspended") (suspended_data state) no_members))))))
 
 -- the thread at this place, with the sample that it has
-abbrev pub thread_at : Names → List Node → Option Row → Seen → ℕ → Data
-thread_at names nodes row seen place =
-    thread_data (unwrap_or (text_at names.threads.items place) unknown) seen (state_of names.states.items row)
+abbrev pub thread_at : Names → Details → List Node → Option Row → Seen → ℕ → Data
+thread_at names details nodes row seen place =
+    thread_data (unwrap_or (text_at details.threads.items place) unknown) seen (state_of names.states.items row)
     (frames_data names.functions.items (frames_in nodes row))
 
 -- these threads; the first one has this place
-abbrev pub threads_at : Names → List Node → List Row → ℕ → List Seen → List Data
-threads_at names nodes rows place [] = []
-threads_at names nodes rows place (seen ∷ more) = thread_at names nodes (row_of rows place) seen place ∷ threads_at names nodes rows (place + 1) more
+abbrev pub threads_at : Names → Details → List Node → List Row → ℕ → List Seen → List Data
+threads_at names details nodes rows place [] = []
+threads_at names details nodes rows place (seen ∷ more) =
+    thread_at names details nodes (row_of rows place) seen place ∷ threads_at names details nodes rows (place + 1) more
 
 abbrev pub threads_data : Reading → Data
 threads_data r =
     object (member (codes "count") (number (unsigned (length r.seen.items)))
-    (member (codes "threads") (array (items_of (threads_at r.names r.counts.trie.nodes.keys r.counts.table.rows.keys 0 r.seen.items))) no_members))
+    (member (codes "threads") (array (items_of (threads_at r.names r.details r.counts.trie.nodes.keys r.counts.table.rows.keys 0 r.seen.items))) no_members))

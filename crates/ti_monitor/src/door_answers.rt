@@ -3,6 +3,7 @@
 use crate::groups_text::push_grouped;
 use crate::json::threads_json;
 use crate::reading::{Order, Reading};
+use crate::texts::push_json;
 use crate::threads_text::push_listed;
 use std::alloc::{AllocError, Global};
 use ti_http::{ContentType, Debug, Target};
@@ -77,10 +78,12 @@ fn grouped(alloc: Global, reading: &Reading) -> Result<Vec<u8>, AllocError>
 
 /// All threads of a reading as JSON. The error is lack of memory.
 fn as_json(alloc: Global, reading: &Reading) -> Result<Vec<u8>, AllocError>
-    ensures { IfOk result (λ b. b.items ≡ compact_text (threads_data reading.now)) }
+    ensures { IfOk result (λ b. b.items ≡ plain_json (compact_text (threads_data reading.now))) }
 {
     let text = threads_json(alloc, reading)?;
-    Vec::from_slice(alloc, text.as_bytes())
+    let mut out = Vec::new(alloc);
+    push_json(&mut out, text.as_bytes())?;
+    Ok(out)
 }
 
 /// The profile of a reading. The error is lack of memory.
@@ -114,5 +117,5 @@ ghost use Rattle.std.specs.Prelude.{◌≡◌, IfOk};
 ghost use Rattle.serde_json.specs.Written.{compact_text};
 ghost use Rattle.ti_monitor.specs.Door.{body_of, content_of, order_of, profile_of, retry_after};
 ghost use Rattle.ti_monitor.specs.Json.{threads_data};
-ghost use Rattle.ti_monitor.specs.Texts.{text_of};
+ghost use Rattle.ti_monitor.specs.Texts.{plain_json, text_of};
 ghost use Rattle.ti_monitor.specs.Threads.{groups_lines, threads_lines};

@@ -1,7 +1,7 @@
 //! All threads as text, with threads of one stack and one state together.
 
 use crate::frames_text::push_frames;
-use crate::reading::Reading;
+use crate::reading::{Details, Reading};
 use crate::stacks::{frames_of, text_at};
 use crate::texts::{push, push_escaped, push_number};
 use crate::threads_text::UNKNOWN;
@@ -75,13 +75,14 @@ fn push_names(out: &mut Vec<u8>, names: &[String], members: &[u32]) -> Result<()
 fn push_group(
     out: &mut Vec<u8>,
     names: &Names,
+    details: &Details,
     nodes: &[Node],
     rows: &[Row],
     group: Group,
 ) -> Result<(), AllocError>
     requires there { group.stack ≤ length nodes.now }
     requires earlier { AreOnEarlier nodes.now }
-    ensures { OnOk result (out.new.items ≡ out.old.items ++ text_of (group_lines names.now nodes.now rows.now group)) }
+    ensures { OnOk result (out.new.items ≡ out.old.items ++ text_of (group_lines names.now details.now nodes.now rows.now group)) }
 {
     let alloc = *out.allocator();
     let members = members_of(alloc, rows, group)?;
@@ -91,9 +92,9 @@ fn push_group(
     push(out, b" ")?;
     push_escaped(out, state)?;
     push(out, b": ")?;
-    push_names(out, &names.threads, &members)?;
+    push_names(out, &details.threads, &members)?;
     push(out, b"\n")?;
-    push_frames(out, &names.functions, &frames)?;
+    push_frames(out, &names.functions, &details.natives, &frames)?;
     push(out, b"\n")
 }
 
@@ -101,16 +102,17 @@ fn push_group(
 fn push_groups(
     out: &mut Vec<u8>,
     names: &Names,
+    details: &Details,
     nodes: &[Node],
     rows: &[Row],
     groups: &[Group],
 ) -> Result<(), AllocError>
     requires there { All (λ (g : Group). g.stack ≤ length nodes.now) groups.now }
     requires earlier { AreOnEarlier nodes.now }
-    ensures { OnOk result (out.new.items ≡ out.old.items ++ text_of (flat_map (group_lines names.now nodes.now rows.now) groups.now)) }
+    ensures { OnOk result (out.new.items ≡ out.old.items ++ text_of (flat_map (group_lines names.now details.now nodes.now rows.now) groups.now)) }
 {
     for group in groups {
-        push_group(out, names, nodes, rows, *group)?;
+        push_group(out, names, details, nodes, rows, *group)?;
     }
     Ok(())
 }
@@ -132,7 +134,14 @@ pub fn push_grouped(out: &mut Vec<u8>, reading: &Reading) -> Result<(), AllocErr
     let rows = reading.counts.table().rows();
     let groups = groups_of(*out.allocator(), rows)?;
     push_total(out, rows.len() as u64)?;
-    push_groups(out, &reading.names, nodes, rows, groups.as_slice())
+    push_groups(
+        out,
+        &reading.names,
+        &reading.details,
+        nodes,
+        rows,
+        groups.as_slice(),
+    )
 }
 
 ghost use Rattle.std.specs.Prelude.{◌≡◌, ◌≤◌, ◌++◌, All, IfOk, OnOk, length};

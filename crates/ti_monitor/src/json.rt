@@ -1,7 +1,7 @@
 //! All threads and their stacks as JSON.
 
 use crate::json_frames::frames_value;
-use crate::reading::{Reading, Seen};
+use crate::reading::{Details, Reading, Seen};
 use crate::stacks::{frames_in, row_of, state_of, text_at};
 use crate::threads_text::UNKNOWN;
 use serde_json::{Map, Value, put};
@@ -61,6 +61,7 @@ fn thread_value(
 fn thread_at(
     alloc: Global,
     names: &Names,
+    details: &Details,
     nodes: &[Node],
     row: Option<Row>,
     seen: Seen,
@@ -68,11 +69,12 @@ fn thread_at(
 ) -> Result<Value, AllocError>
     requires there { IfSome row (λ r. r.stack ≤ length nodes.now) }
     requires earlier { AreOnEarlier nodes.now }
-    ensures { IfOk result (λ v. view v ≡ thread_at names.now nodes.now row seen place) }
+    ensures { IfOk result (λ v. view v ≡ thread_at names.now details.now nodes.now row seen place) }
 {
     let frames = frames_in(alloc, nodes, row)?;
     let frames = frames_value(alloc, &names.functions, &frames)?;
-    let name = text_at(&names.threads, place).unwrap_or(UNKNOWN);
+    let known = text_at(&details.threads, place);
+    let name = known.unwrap_or(UNKNOWN);
     let state = state_of(&names.states, row);
     thread_value(alloc, name, seen, state, frames)
 }
@@ -81,18 +83,19 @@ fn thread_at(
 fn values_of(
     alloc: Global,
     names: &Names,
+    details: &Details,
     nodes: &[Node],
     rows: &[Row],
     seen: &[Seen],
 ) -> Result<Vec<Value>, AllocError>
     requires there { AreNumbered rows.now (length nodes.now) }
     requires earlier { AreOnEarlier nodes.now }
-    ensures { IfOk result (λ v. map view v.items ≡ threads_at names.now nodes.now rows.now 0 seen.now) }
+    ensures { IfOk result (λ v. map view v.items ≡ threads_at names.now details.now nodes.now rows.now 0 seen.now) }
 {
     let mut values = Vec::new(alloc);
     for place in 0..seen.len() {
         let row = row_of(rows, place);
-        values.push(thread_at(alloc, names, nodes, row, seen[place], place)?)?;
+        values.push(thread_at(alloc, names, details, nodes, row, seen[place], place)?)?;
     }
     Ok(values)
 }
@@ -103,7 +106,14 @@ fn threads_value(alloc: Global, reading: &Reading) -> Result<Value, AllocError>
 {
     let nodes = reading.counts.trie().nodes();
     let rows = reading.counts.table().rows();
-    let values = values_of(alloc, &reading.names, nodes, rows, &reading.seen)?;
+    let values = values_of(
+        alloc,
+        &reading.names,
+        &reading.details,
+        nodes,
+        rows,
+        &reading.seen,
+    )?;
     let mut map = Map::new(alloc);
     put(&mut map, alloc, "count", Value::from(reading.seen.len()))?;
     put(&mut map, alloc, "threads", Value::Array(values))?;

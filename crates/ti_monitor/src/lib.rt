@@ -54,5 +54,5 @@ pub use door_seats::{ConnNo, MOST_CONNECTIONS};
 pub use law::samples_are_ticks_at_threads;
 pub use metrics::{BOUNDS, Histogram, Metrics};
 pub use monitor::{Monitor, ReadingNo};
-pub use reading::{Order, Reading, Seen};
+pub use reading::{Details, Order, Reading, Seen};
 pub use state::{STATES, state_place};

@@ -4,7 +4,7 @@ use crate::asking::probe_if_there;
 use crate::hand_overs::count_hand_overs;
 use crate::meeting::{count_earlier, count_events, enable_events, let_go_of_ended, watch_new};
 use crate::metrics::Metrics;
-use crate::naming::{about_of, names_of, seen_of};
+use crate::naming::{about_of, details_of, names_of, seen_of};
 use crate::reading::{Order, Reading};
 use crate::running::is_profile;
 use crate::sampling::{Readings, end};
@@ -259,6 +259,12 @@ impl Monitor {
             &self.readings.methods,
             &self.watched,
         )?;
+        let details = details_of(
+            self.alloc,
+            &mut self.agent,
+            &self.readings.methods,
+            &self.watched,
+        )?;
         let seen = seen_of(self.alloc, &self.watched)?;
         let about = about_of(
             self.alloc,
@@ -269,6 +275,7 @@ impl Monitor {
         Ok(Some(Reading {
             counts,
             names,
+            details,
             about,
             seen,
         }))

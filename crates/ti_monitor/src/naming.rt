@@ -1,9 +1,10 @@
 //! The names of what was counted.
 
 use crate::methods::Methods;
-use crate::reading::Seen;
+use crate::reading::{Details, Seen};
 use crate::running::Running;
 use crate::state::STATE_NAMES;
+use crate::texts::visible;
 use crate::watched::Watched;
 use std::alloc::{AllocError, Global};
 use ti_pprof::{About, Function, Names};
@@ -77,13 +78,39 @@ fn name_of(alloc: Global, watched: &Watched) -> Result<String, AllocError> {
     String::from_str(alloc, watched.name.as_str())
 }
 
-/// The names of the threads. The error is lack of memory.
+/// The names of the threads, as they are. The error is lack of memory.
 fn threads_of(alloc: Global, watched: &[Watched]) -> Result<Vec<String>, AllocError> {
     let mut threads = Vec::new(alloc);
     for one in watched {
         threads.push(name_of(alloc, one)?)?;
     }
     Ok(threads)
+}
+
+/// The texts of the threads' labels: their names, with control characters escaped. The error is lack of memory.
+fn labels_of(alloc: Global, watched: &[Watched]) -> Result<Vec<String>, AllocError> {
+    let mut labels = Vec::new(alloc);
+    for one in watched {
+        labels.push(visible(alloc, name_of(alloc, one)?.as_str())?)?;
+    }
+    Ok(labels)
+}
+
+/// Whether the functions are native methods. Those that are no method's are not. The error is lack of memory.
+fn natives_of(
+    alloc: Global,
+    agent: &mut Agent,
+    methods: &Methods,
+) -> Result<Vec<bool>, AllocError> {
+    let mut natives = Vec::new(alloc);
+    for _ in BARE_NAMES {
+        natives.push(false)?;
+    }
+    for number in methods.numbers() {
+        let told = agent.is_method_native(MethodNo(*number));
+        natives.push(matches!(told, Ok(true)))?;
+    }
+    Ok(natives)
 }
 
 /// The names of the states. The error is lack of memory.
@@ -104,8 +131,21 @@ pub(crate) fn names_of(
 ) -> Result<Names, AllocError> {
     Ok(Names {
         functions: functions_of(alloc, agent, methods)?,
-        threads: threads_of(alloc, watched)?,
+        threads: labels_of(alloc, watched)?,
         states: states_of(alloc)?,
+    })
+}
+
+/// What texts tell beyond these names. The error is lack of memory.
+pub(crate) fn details_of(
+    alloc: Global,
+    agent: &mut Agent,
+    methods: &Methods,
+    watched: &[Watched],
+) -> Result<Details, AllocError> {
+    Ok(Details {
+        threads: threads_of(alloc, watched)?,
+        natives: natives_of(alloc, agent, methods)?,
     })
 }
 

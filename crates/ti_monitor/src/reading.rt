@@ -27,6 +27,15 @@ pub struct Seen {
     pub priority: i32,
 }
 
+/// What texts tell beyond the names of a profile.
+#[derive(Drop)]
+pub struct Details {
+    /// The threads' names as they are. In `Names::threads`, the texts of a profile's labels, control characters are escaped.
+    pub threads: Vec<String>,
+    /// Whether functions are native methods, by their places in `Names::functions`.
+    pub natives: Vec<bool>,
+}
+
 /// What was read: how often each stack was seen, and the names of all numbers in it.
 #[derive(Drop)]
 pub struct Reading {
@@ -34,6 +43,7 @@ pub struct Reading {
     /// functions are places in `names.functions`.
     pub counts: Counts,
     pub names: Names,
+    pub details: Details,
     pub about: About,
     /// The threads, in the order in which they were met.
     pub seen: Vec<Seen>,

@@ -1,7 +1,7 @@
 //! Pieces of texts: numbers, names within quotes, and lines.
 
 use itoa::Buffer;
-use std::alloc::AllocError;
+use std::alloc::{AllocError, Global};
 
 /// Appends bytes. The error is lack of memory.
 pub(crate) fn push(out: &mut Vec<u8>, bytes: &[u8]) -> Result<(), AllocError>
@@ -83,11 +83,18 @@ fn push_escaped_byte(out: &mut Vec<u8>, byte: u8) -> Result<(), AllocError>
     }
 }
 
+/// Whether a byte is a control character.
+fn is_control(byte: u8) -> bool
+    ensures { result ≡ is_control byte }
+{
+    byte < 32 || byte == 127
+}
+
 /// Appends a byte as it is, or a control character by its number. The error is lack of memory.
 fn push_other_byte(out: &mut Vec<u8>, byte: u8) -> Result<(), AllocError>
     ensures { OnOk result (out.new.items ≡ out.old.items ++ numbered_byte byte) }
 {
-    if byte >= 32 {
+    if !is_control(byte) {
         out.push(byte)?;
         return Ok(());
     }
@@ -109,6 +116,63 @@ pub(crate) fn push_escaped(out: &mut Vec<u8>, text: &str) -> Result<(), AllocErr
     Ok(())
 }
 
-ghost use Rattle.std.specs.Prelude.{◌≡◌, ◌++◌, ◌<◌, All, OnOk, decimal, map};
+/// Appends a byte as it is, or a control character as within quotes. The error is lack of memory.
+fn push_visible_byte(out: &mut Vec<u8>, byte: u8) -> Result<(), AllocError>
+    ensures { OnOk result (out.new.items ≡ out.old.items ++ visible_byte byte) }
+{
+    if is_control(byte) {
+        return push_escaped_byte(out, byte);
+    }
+    out.push(byte)?;
+    Ok(())
+}
+
+/// Appends a text, with its control characters as they stand within quotes. The error is lack of memory.
+fn push_visible(out: &mut Vec<u8>, text: &str) -> Result<(), AllocError>
+    ensures { OnOk result (out.new.items ≡ out.old.items ++ visible text.now) }
+{
+    let bytes = text.as_bytes();
+    for byte in bytes {
+        push_visible_byte(out, *byte)?;
+    }
+    Ok(())
+}
+
+/// A text with its control characters as they stand within quotes. The error is lack of memory.
+pub(crate) fn visible(alloc: Global, text: &str) -> Result<String, AllocError>
+    ensures { IfOk result (λ s. string_bytes s ≡ visible text.now) }
+{
+    let mut bytes = Vec::new(alloc);
+    push_visible(&mut bytes, text)?;
+    // What is ASCII stays so, and the rest as it is. So this is UTF-8, and an error never comes.
+    match String::from_utf8(bytes) {
+        Ok(text) => Ok(text),
+        Err(_) => Err(AllocError),
+    }
+}
+
+/// Appends a byte of a text in JSON, which has all control characters but this one escaped. The error is lack of memory.
+fn push_json_byte(out: &mut Vec<u8>, byte: u8) -> Result<(), AllocError>
+    ensures { OnOk result (out.new.items ≡ out.old.items ++ json_byte byte) }
+{
+    if byte == 127 {
+        return push(out, b"\\u007f");
+    }
+    out.push(byte)?;
+    Ok(())
+}
+
+/// Appends a text in JSON, with the control character that JSON leaves as it is escaped. The error is lack of memory.
+pub(crate) fn push_json(out: &mut Vec<u8>, bytes: &[u8]) -> Result<(), AllocError>
+    ensures { OnOk result (out.new.items ≡ out.old.items ++ plain_json bytes.now) }
+{
+    for byte in bytes {
+        push_json_byte(out, *byte)?;
+    }
+    Ok(())
+}
+
+ghost use Rattle.std.specs.Prelude.{◌≡◌, ◌++◌, ◌<◌, All, IfOk, OnOk, decimal, map};
 ghost use Rattle.std.specs.Fmt.{signed_decimal};
-ghost use Rattle.ti_monitor.specs.Texts.{digit_at, escaped, escaped_byte, hex_digit, numbered_byte, seconds};
+ghost use Rattle.std.specs.String.{string_bytes};
+ghost use Rattle.ti_monitor.specs.Texts.{digit_at, escaped, escaped_byte, hex_digit, is_control, json_byte, numbered_byte, plain_json, seconds, visible, visible_byte};

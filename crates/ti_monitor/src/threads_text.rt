@@ -1,7 +1,7 @@
 //! All threads and their stacks as text, thread by thread.
 
 use crate::frames_text::push_frames;
-use crate::reading::{Reading, Seen};
+use crate::reading::{Details, Reading, Seen};
 use crate::stacks::{frames_in, row_of, state_of, text_at};
 use crate::texts::{push, push_escaped, push_number, push_signed};
 use std::alloc::AllocError;
@@ -41,6 +41,7 @@ fn push_thread_head(
 fn push_thread(
     out: &mut Vec<u8>,
     names: &Names,
+    details: &Details,
     nodes: &[Node],
     row: Option<Row>,
     seen: Seen,
@@ -48,13 +49,14 @@ fn push_thread(
 ) -> Result<(), AllocError>
     requires there { IfSome row (λ r. r.stack ≤ length nodes.now) }
     requires earlier { AreOnEarlier nodes.now }
-    ensures { OnOk result (out.new.items ≡ out.old.items ++ text_of (thread_text names.now nodes.now row seen place)) }
+    ensures { OnOk result (out.new.items ≡ out.old.items ++ text_of (thread_text names.now details.now nodes.now row seen place)) }
 {
-    let name = text_at(&names.threads, place).unwrap_or(UNKNOWN);
+    let known = text_at(&details.threads, place);
+    let name = known.unwrap_or(UNKNOWN);
     let state = state_of(&names.states, row).unwrap_or(UNKNOWN);
     let frames = frames_in(*out.allocator(), nodes, row)?;
     push_thread_head(out, name, seen, state)?;
-    push_frames(out, &names.functions, &frames)?;
+    push_frames(out, &names.functions, &details.natives, &frames)?;
     push(out, b"\n")
 }
 
@@ -62,17 +64,18 @@ fn push_thread(
 fn push_threads(
     out: &mut Vec<u8>,
     names: &Names,
+    details: &Details,
     nodes: &[Node],
     rows: &[Row],
     seen: &[Seen],
 ) -> Result<(), AllocError>
     requires there { AreNumbered rows.now (length nodes.now) }
     requires earlier { AreOnEarlier nodes.now }
-    ensures { OnOk result (out.new.items ≡ out.old.items ++ text_of (threads_from names.now nodes.now rows.now 0 seen.now)) }
+    ensures { OnOk result (out.new.items ≡ out.old.items ++ text_of (threads_from names.now details.now nodes.now rows.now 0 seen.now)) }
 {
     for place in 0..seen.len() {
         let row = row_of(rows, place);
-        push_thread(out, names, nodes, row, seen[place], place)?;
+        push_thread(out, names, details, nodes, row, seen[place], place)?;
     }
     Ok(())
 }
@@ -86,7 +89,14 @@ pub fn push_listed(out: &mut Vec<u8>, reading: &Reading) -> Result<(), AllocErro
     let rows = reading.counts.table().rows();
     push_number(out, reading.seen.len() as u64)?;
     push(out, b" threads\n\n")?;
-    push_threads(out, &reading.names, nodes, rows, &reading.seen)
+    push_threads(
+        out,
+        &reading.names,
+        &reading.details,
+        nodes,
+        rows,
+        &reading.seen,
+    )
 }
 
 ghost use Rattle.std.specs.Prelude.{◌≡◌, ◌≤◌, ◌++◌, IfSome, OnOk, length};

@@ -5,4 +5,4 @@ use Rattle.ti_monitor.proofs.frames_text.push_frames.Given as goal
 
 abbrev pub invariant-loop-frame : goal.invariant-loop-frame
 invariant-loop-frame l =
-    l.out.items ++ text_of (map (frame_line l.functions) (drop l.frame-index l.frames)) ≡ l.fn.out.items ++ text_of (map (frame_line l.functions) l.frames)
+    l.out.items ++ text_of (map (frame_line l.functions l.natives) (drop l.frame-index l.frames)) ≡ l.fn.out.items ++ text_of (map (frame_line l.functions l.natives) l.frames)

@@ -6,5 +6,5 @@ use Rattle.ti_monitor.proofs.groups_text.push_groups.Given as goal
 
 abbrev pub invariant-loop-group : goal.invariant-loop-group
 invariant-loop-group l =
-    l.out.items ++ text_of (flat_map (group_lines l.names l.nodes l.rows) (drop l.group-index l.groups))
-    ≡ l.fn.out.items ++ text_of (flat_map (group_lines l.names l.nodes l.rows) l.groups)
+    l.out.items ++ text_of (flat_map (group_lines l.names l.details l.nodes l.rows) (drop l.group-index l.groups))
+    ≡ l.fn.out.items ++ text_of (flat_map (group_lines l.names l.details l.nodes l.rows) l.groups)
