@@ -57,7 +57,7 @@ threads_plain : (names : Names) (details : Details) (nodes : List Node) (rows : 
 threads_plain names details nodes rows place [] = refl
 threads_plain names details nodes rows place (one ∷ seen) =
     ap (λ b. b || items_have_float (items_of (threads_at names details nodes rows (place + 1) seen)))
-    (thread_plain (unwrap_or (text_at details.threads.items place) unknown) one (state_of names.states.items (row_of rows place)) (frames_data names.functions.items (frames_in nodes (row_of rows place))) (items_plain names.functions.items (frames_in nodes (row_of rows place))))
+    (thread_plain (unwrap_or (text_at details.threads.items place) unknown) one (state_of names.states.items (row_of rows place) one) (frames_data names.functions.items (frames_in nodes (row_of rows place))) (items_plain names.functions.items (frames_in nodes (row_of rows place))))
     ∙ threads_plain names details nodes rows (place + 1) seen
 
 pub all_plain : (r : Reading) → has_float (threads_data r) ≡ false

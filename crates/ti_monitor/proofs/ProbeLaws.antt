@@ -12,9 +12,9 @@ use Rattle.ti_slot.specs.declared.asked.Asked.TheVariants.{Answered}
 use Rattle.ti_agent.specs.Posts.{posting_refusal}
 use Rattle.ti_service.specs.Memberships.{AgentValue}
 use Rattle.ti_monitor.specs.declared.asking.Told.{Told}
-use Rattle.ti_monitor.specs.declared.asking.Told.TheVariants.{Stack, Ended, Unanswered, NotYet}
+use Rattle.ti_monitor.specs.declared.asking.Told.TheVariants.{Stack, NotAlive, Unanswered, NotYet}
 use Rattle.ti_monitor.specs.declared.watched.Watched.{Watched}
-use Rattle.ti_monitor.specs.Asking.{Asks, EndsAtOnce, IsNotAlive, IsRefusedBy, IsToldBy, MayProbe, Probes, ProbesFirst, ProbesNot, TellsAtOnce, newest}
+use Rattle.ti_monitor.specs.Asking.{Asks, AsksStack, IsNotAlive, IsRefusedBy, IsToldBy, MayProbe, Probes, ProbesFirst, ProbesNot, newest}
 
 -- one more thread
 pub probes_more : (n : ℕ) (a b c : AgentValue) (ws vs : List Watched) (w v : Watched) → ProbesFirst n a b ws vs → slice_get vs n ≡ Some w → MayProbe b c w v → ProbesFirst (suc n) a c ws (slice_set vs n v)
@@ -64,15 +64,15 @@ refused_not_alive a b t c takes e (inr busy) same dead = absurd (never busy.0 de
     never x y = cc
 
 -- a thread that could not be asked
-pub refused_at_once : (a b : AgentValue) (w v : Watched) (e : TiError) (t : Told) → IsRefusedBy e t → (e ≡ ThreadNotAlive → EndsAtOnce a b w v) → TellsAtOnce a b w v t
-refused_at_once a b w v e (Stack trace) is ends = absurd is
-refused_at_once a b w v e Ended is ends = ends is
-refused_at_once a b w v e Unanswered is ends = tt
-refused_at_once a b w v e NotYet is ends = tt
+pub refused_told : (a b : AgentValue) (w : Watched) (e : TiError) (t : Told) → IsRefusedBy e t → (e ≡ ThreadNotAlive → IsNotAlive a b w.thread newest) → AsksStack a b w w t
+refused_told a b w e (Stack trace) is dead = absurd is
+refused_told a b w e NotAlive is dead = (dead is, refl)
+refused_told a b w e Unanswered is dead = tt
+refused_told a b w e NotYet is dead = tt
 
 -- one that was asked for its stack, and answered
-pub told_at_once : (a m b : AgentValue) (w v : Watched) (said : Answer) (t : Told) → Probes a m w v → Asks m b w.thread newest (Answered said) → IsToldBy said t → TellsAtOnce a b w v t
-told_at_once a m b w v said (Stack trace) probes asks is = (m, probes, inr (subst (λ (x : Answer). Asks m b w.thread newest (Answered x)) is asks))
-told_at_once a m b w v said Ended probes asks is = inr (inr (m, probes, inr (inl (subst (λ (x : Answer). Asks m b w.thread newest (Answered x)) is asks))))
-told_at_once a m b w v said Unanswered probes asks is = tt
-told_at_once a m b w v said NotYet probes asks is = tt
+pub asked_told : (a b : AgentValue) (w : Watched) (said : Answer) (t : Told) → Asks a b w.thread newest (Answered said) → IsToldBy said t → AsksStack a b w w t
+asked_told a b w said (Stack trace) asks is = (subst (λ (x : Answer). Asks a b w.thread newest (Answered x)) is asks, refl)
+asked_told a b w said NotAlive asks is = (inl (subst (λ (x : Answer). Asks a b w.thread newest (Answered x)) is asks), refl)
+asked_told a b w said Unanswered asks is = tt
+asked_told a b w said NotYet asks is = tt

@@ -28,6 +28,12 @@ Answers old new place frames late l =
     × Pays old new place
     × (new.at_once ≡ old.at_once + min (owed_at old place) 1) × (new.late ≡ old.late + (owed_at old place - 1)) × (new.unanswered ≡ old.unanswered)
 
+-- the thread of a place is not alive: its ticks that owe a stack are taken back, and nothing is counted
+abbrev pub TakesBack : Account → Account → ℕ → Type 0
+TakesBack old new place =
+    (new.owed.items ≡ slice_set old.owed.items place 0) × (new.thread_ticks + owed_at old place ≡ old.thread_ticks)
+    × (new.counts ≡ old.counts) × (new.at_once ≡ old.at_once) × (new.late ≡ old.late) × (new.unanswered ≡ old.unanswered)
+
 -- what is owed at a place is counted under one frame
 abbrev pub Loses : Account → Account → ℕ → Frame → Label → Type 0
 Loses old new place f l =

@@ -1,5 +1,5 @@
 -- What threads are asked, and what they told.
-use Rattle.std.specs.Prelude.{ℕ, zero, suc, pos, ◌≡◌, ◌⊎◌, true, false, List, [], ◌∷◌, length, Some, None}
+use Rattle.std.specs.Prelude.{ℕ, zero, suc, pos, ◌≡◌, ◌⊎◌, Bool, true, false, List, [], ◌∷◌, length, Some, None}
 use Rattle.ti_types.specs.declared.answer.Answer.{Answer}
 use Rattle.ti_types.specs.declared.answer.Answer.TheVariants as answer
 use Rattle.ti_types.specs.declared.call.Call.{Call}
@@ -7,13 +7,13 @@ use Rattle.ti_types.specs.declared.call.Call.TheVariants as call
 use Rattle.ti_types.specs.declared.error.TiError.{TiError}
 use Rattle.ti_types.specs.declared.error.TiError.TheVariants.{ThreadNotAlive}
 use Rattle.ti_types.specs.declared.numbers.ThreadNo.{ThreadNo}
-use Rattle.ti_types.specs.Frames.{Trace, bare_trace}
+use Rattle.ti_types.specs.Frames.{bare_trace}
 use Rattle.ti_slot.specs.declared.asked.Asked.{Asked as AskedOf}
 use Rattle.ti_slot.specs.declared.asked.Asked.TheVariants.{Answered}
 use Rattle.ti_agent.specs.Posts.{LooksFor, Posts, posting_refusal}
 use Rattle.ti_service.specs.Memberships.{AgentValue}
 use Rattle.ti_monitor.specs.declared.asking.Told.{Told}
-use Rattle.ti_monitor.specs.declared.asking.Told.TheVariants.{Stack, Ended}
+use Rattle.ti_monitor.specs.declared.asking.Told.TheVariants.{Stack, NotAlive, Unanswered, NotYet}
 use Rattle.ti_monitor.specs.declared.watched.Out.{Out}
 use Rattle.ti_monitor.specs.declared.watched.Watched.{Watched}
 use Rattle.ti_monitor.specs.States.{is_suspended, place_of}
@@ -80,43 +80,62 @@ abbrev pub IsNotAlive : AgentValue → AgentValue → ThreadNo → Call → Type
 IsNotAlive a b thread c =
     Asks a b thread c (Answered (answer.Refused ThreadNotAlive)) ⊎ ((posting_refusal a.env thread c ≡ Some ThreadNotAlive) × (b ≡ a))
 
--- the thread told in which state it is, and then its stack. One that has not started has no frames
-abbrev pub StackAtOnce : AgentValue → AgentValue → Watched → Watched → Trace → Type 0
-StackAtOnce a b w v trace =
-    (m : AgentValue) × Probes a m w v
-    × (((v.state ≡ 0) × (trace.frames ≡ []) × (b ≡ m)) ⊎ Asks m b w.thread newest (Answered (answer.Trace trace)))
+-- the thread was asked for its stack, and told it, or is not alive
+abbrev pub AsksStack : AgentValue → AgentValue → Watched → Watched → Told → Type 0
+AsksStack a b w v (Stack trace) = Asks a b w.thread newest (Answered (answer.Trace trace)) × (v ≡ w)
+AsksStack a b w v NotAlive = IsNotAlive a b w.thread newest × (v ≡ w)
+AsksStack a b w v _ = Unit {0}
 
--- the agent let go of it, or it was asked and is not alive, or it told that it has ended
-abbrev pub EndsAtOnce : AgentValue → AgentValue → Watched → Watched → Type 0
-EndsAtOnce a b w v =
-    ((w.gone ≡ true) × (b ≡ a) × (v ≡ w))
-    ⊎ (IsNotAlive a b w.thread call.State × (v ≡ w))
-    ⊎ ((m : AgentValue) × Probes a m w v × (((is_done v ≡ true) × (b ≡ m)) ⊎ IsNotAlive m b w.thread newest))
-
--- a stack, or that the thread has ended, was told so
-abbrev pub TellsAtOnce : AgentValue → AgentValue → Watched → Watched → Told → Type 0
-TellsAtOnce a b w v (Stack trace) = StackAtOnce a b w v trace
-TellsAtOnce a b w v Ended = EndsAtOnce a b w v
-TellsAtOnce a b w v _ = Unit {0}
+-- what a thread told of its stack that then told whether it has ended: a stack of one that has ended is none
+abbrev pub seen_with : Bool → Told → Told
+seen_with ended NotAlive = NotAlive
+seen_with ended Unanswered = Unanswered
+seen_with ended NotYet = NotYet
+seen_with false (Stack trace) = Stack trace
+seen_with true (Stack trace) = NotAlive
 
 -- the thread gave this answer to the call that was out there
 abbrev pub AnswersLater : AgentValue → AgentValue → Watched → Watched → Answer → Type 0
 AnswersLater a b w v said = (out : Out) × (w.out ≡ Some out) × LooksFor a.env b.env out.ticket (Some said) × (b.home ≡ a.home) × IsCollected w v
 
 -- a stack, or that the thread is not alive, was told so
-abbrev pub TellsLater : AgentValue → AgentValue → Watched → Watched → Told → Type 0
-TellsLater a b w v (Stack trace) = AnswersLater a b w v (answer.Trace (bare_trace trace.frames))
-TellsLater a b w v Ended = AnswersLater a b w v (answer.Refused ThreadNotAlive)
-TellsLater a b w v _ = Unit {0}
+abbrev pub CollectsStack : AgentValue → AgentValue → Watched → Watched → Told → Type 0
+CollectsStack a b w v (Stack trace) = AnswersLater a b w v (answer.Trace (bare_trace trace.frames))
+CollectsStack a b w v NotAlive = AnswersLater a b w v (answer.Refused ThreadNotAlive)
+CollectsStack a b w v _ = Unit {0}
 
 -- what an answer to the question for a stack tells
 abbrev pub IsToldBy : Answer → Told → Type 0
 IsToldBy said (Stack trace) = said ≡ answer.Trace trace
-IsToldBy said Ended = said ≡ answer.Refused ThreadNotAlive
+IsToldBy said NotAlive = said ≡ answer.Refused ThreadNotAlive
 IsToldBy said _ = Unit {0}
 
 -- what a refusal tells
 abbrev pub IsRefusedBy : TiError → Told → Type 0
 IsRefusedBy e (Stack trace) = ⊥
-IsRefusedBy e Ended = e ≡ ThreadNotAlive
+IsRefusedBy e NotAlive = e ≡ ThreadNotAlive
 IsRefusedBy e _ = Unit {0}
+
+-- what a thread told of its stack that was then refused its state: a stack without a state is none
+abbrev pub IsUnseenBy : TiError → Told → Told → Type 0
+IsUnseenBy e (Stack trace) told = IsRefusedBy e told
+IsUnseenBy e NotAlive told = told ≡ NotAlive
+IsUnseenBy e Unanswered told = told ≡ Unanswered
+IsUnseenBy e NotYet told = told ≡ NotYet
+
+-- a thread that told something of its stack was then asked for its state: it told it, and that is the state in which it is seen, or not
+abbrev pub SeesAfter : AgentValue → AgentValue → Watched → Watched → Told → Told → Type 0
+SeesAfter a b w v told seen =
+    (Probes a b w v × (seen ≡ seen_with (is_done v) told))
+    ⊎ (ProbesNot a b w v × ((e : TiError) × (e ≡ ThreadNotAlive → IsNotAlive a b w.thread call.State) × IsUnseenBy e told seen))
+
+-- the agent let go of the thread; or it was asked for its stack, and then for its state
+abbrev pub TellsAtOnce : AgentValue → AgentValue → Watched → Watched → Told → Type 0
+TellsAtOnce a b w v seen =
+    ((w.gone ≡ true) × (b ≡ a) × (v ≡ w) × (seen ≡ NotAlive))
+    ⊎ ((m : AgentValue) × (u : Watched) × (told : Told) × AsksStack a m w u told × SeesAfter m b u v told seen)
+
+-- nothing is known yet; or the answer to the call that was out came, and then it was asked for its state
+abbrev pub TellsLater : AgentValue → AgentValue → Watched → Watched → Told → Type 0
+TellsLater a b w v seen =
+    (seen ≡ NotYet) ⊎ ((m : AgentValue) × (u : Watched) × (told : Told) × CollectsStack a m w u told × SeesAfter m b u v told seen)

@@ -9,7 +9,7 @@ use Rattle.ti_monitor.specs.declared.lines.Known.{Known}
 use Rattle.ti_monitor.specs.declared.methods.Methods.{Methods}
 use Rattle.ti_monitor.specs.declared.running.Running.{Running}
 use Rattle.ti_monitor.specs.declared.watched.Watched.{Watched}
-use Rattle.ti_monitor.specs.Accounts.{Answers, Loses, owed_at}
+use Rattle.ti_monitor.specs.Accounts.{Answers, Loses, TakesBack, owed_at}
 use Rattle.ti_monitor.specs.Counting.{frame}
 use Rattle.ti_monitor.specs.Lines.{line_at}
 use Rattle.ti_monitor.specs.Orders.{labels_in}
@@ -25,15 +25,15 @@ pub record KnowsMore (m n : Methods) : Type 0 where
 abbrev pub IsLine : Methods → ℕ → Place → ℕ → Type 0
 IsLine m place where_at line = (line ≡ 0) ⊎ ((known : Known) × (slice_get m.lines.items place ≡ Some (Some known)) × (line ≡ line_at known.lines where_at))
 
--- a frame is counted as its method's, whose function is behind the three that are no method's; or, if there is no room, as that of no function
+-- a frame is counted as its method's, whose function is behind the two that are no method's; or, if there is no room, as that of no function
 abbrev pub IsNamed : Methods → FrameOf → Frame → Type 0
 IsNamed m f g =
     (g ≡ frame 4294967295 0)
-    ⊎ ((place : ℕ) × (slice_get m.numbers.keys place ≡ Some f.method.0) × (g.function ≡ place + 3) × IsLine m place f.place g.line)
+    ⊎ ((place : ℕ) × (slice_get m.numbers.keys place ≡ Some f.method.0) × (g.function ≡ place + 2) × IsLine m place f.place g.line)
 
 -- these frames, each named, with `(late)` in front of them
 abbrev pub AreNamed : Methods → List FrameOf → List Frame → Type 0
-AreNamed m fs gs = (named : List Frame) × (gs ≡ frame 2 0 ∷ named) × AllZip (IsNamed m) fs named
+AreNamed m fs gs = (named : List Frame) × (gs ≡ frame 1 0 ∷ named) × AllZip (IsNamed m) fs named
 
 -- all of a reading but its account is as it was
 pub record IsStillRunning (r s : Running) : Type 0 where
@@ -54,6 +54,11 @@ CountsLost place function watched r s =
     (is_some r.ended ≡ true → s ≡ r)
     × (is_some r.ended ≡ false
     → IsStillRunning r s × Loses r.account s.account place (frame function 0) (label_at watched (labels_in r.order) place))
+
+-- or it takes the ticks at a place back, whose thread is not alive
+abbrev pub TakesBackAt : ℕ → Running → Running → Type 0
+TakesBackAt place r s =
+    (is_some r.ended ≡ true → s ≡ r) × (is_some r.ended ≡ false → IsStillRunning r s × TakesBack r.account s.account place)
 
 -- a reading goes on, and is owed a stack of the thread at a place
 abbrev pub waits_for : ℕ → Running → Bool

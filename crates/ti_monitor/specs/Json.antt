@@ -60,7 +60,7 @@ thread_data name seen state frames =
 -- the thread at this place, with the sample that it has
 abbrev pub thread_at : Names → Details → List Node → Option Row → Seen → ℕ → Data
 thread_at names details nodes row seen place =
-    thread_data (unwrap_or (text_at details.threads.items place) unknown) seen (state_of names.states.items row)
+    thread_data (unwrap_or (text_at details.threads.items place) unknown) seen (state_of names.states.items row seen)
     (frames_data names.functions.items (frames_in nodes row))
 
 -- these threads; the first one has this place

@@ -5,14 +5,14 @@ use Rattle.ti_types.specs.Frames.{Trace}
 use Rattle.ti_pprof.specs.declared.stacks.Frame.{Frame}
 use Rattle.ti_service.specs.Memberships.{AgentValue}
 use Rattle.ti_monitor.specs.declared.asking.Told.{Told}
-use Rattle.ti_monitor.specs.declared.asking.Told.TheVariants.{Stack, Ended, Unanswered, NotYet}
+use Rattle.ti_monitor.specs.declared.asking.Told.TheVariants.{Stack, NotAlive, Unanswered, NotYet}
 use Rattle.ti_monitor.specs.declared.monitor.ReadingNo.{ReadingNo}
 use Rattle.ti_monitor.specs.declared.running.Running.{Running}
 use Rattle.ti_monitor.specs.declared.sampling.Readings.{Readings}
 use Rattle.ti_monitor.specs.declared.watched.Watched.{Watched}
 use Rattle.ti_monitor.specs.Asking.{TellsAtOnce, TellsLater}
 use Rattle.ti_monitor.specs.Watching.{is_free}
-use Rattle.ti_monitor.specs.Counted.{AreNamed, CountsLost, CountsStack, KnowsMore, waits_for}
+use Rattle.ti_monitor.specs.Counted.{AreNamed, CountsLost, CountsStack, KnowsMore, TakesBackAt, waits_for}
 use Rattle.ti_monitor.specs.Monitors.{reading_in}
 use Rattle.ti_monitor.specs.Ticking.{EndsIfOver, EndsNow, TicksIfDue}
 
@@ -20,13 +20,13 @@ use Rattle.ti_monitor.specs.Ticking.{EndsIfOver, EndsNow, TicksIfDue}
 abbrev pub CountsTrace : Trace → ℕ → List Watched → Readings → Readings → Type 0
 CountsTrace trace place watched r s =
     ((frames : List Frame) × AreNamed s.methods trace.frames frames × AllZip (CountsStack place frames watched) r.running.items s.running.items)
-    ⊎ AllZip (CountsLost place 1 watched) r.running.items s.running.items
+    ⊎ AllZip (CountsLost place 0 watched) r.running.items s.running.items
 
--- each reading counts what the thread at a place told
+-- each reading counts what the thread at a place told. One that is not alive gives no sample
 abbrev pub CountsTold : Told → ℕ → List Watched → Readings → Readings → Type 0
 CountsTold NotYet place watched r s = s.running.items ≡ r.running.items
-CountsTold Ended place watched r s = AllZip (CountsLost place 0 watched) r.running.items s.running.items
-CountsTold Unanswered place watched r s = AllZip (CountsLost place 1 watched) r.running.items s.running.items
+CountsTold NotAlive place watched r s = AllZip (TakesBackAt place) r.running.items s.running.items
+CountsTold Unanswered place watched r s = AllZip (CountsLost place 0 watched) r.running.items s.running.items
 CountsTold (Stack trace) place watched r s = CountsTrace trace place watched r s
 
 -- the agent, the threads and the readings

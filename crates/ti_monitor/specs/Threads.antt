@@ -62,7 +62,7 @@ head_line name seen state =
 -- a thread: its name, number, priority and state, a line for each frame, and an empty line
 abbrev pub thread_text : Names → Details → List Node → Option Row → Seen → ℕ → List (List ℕ)
 thread_text names details nodes row seen place =
-    head_line (unwrap_or (text_at details.threads.items place) unknown) seen (unwrap_or (state_of names.states.items row) unknown)
+    head_line (unwrap_or (text_at details.threads.items place) unknown) seen (unwrap_or (state_of names.states.items row seen) unknown)
     ∷ (map (frame_line names.functions.items details.natives.items) (frames_in nodes row) ++ [] ∷ [])
 
 -- these threads; the first one has this place

@@ -66,7 +66,7 @@ pub record Ends (now : ℕ) (watched : List Watched) (r s : Running) : Type 0 wh
   pub same : IsReading r s
   pub ended : s.ended ≡ Some now
   pub schedule : s.schedule ≡ closed r.schedule
-  pub loses : LosesUpTo r.account s.account (length r.account.owed.items) (frame 1 0) (label_at watched (labels_in r.order))
+  pub loses : LosesUpTo r.account s.account (length r.account.owed.items) (frame 0 0) (label_at watched (labels_in r.order))
 
 -- one that goes on ends so, and one that has ended stays
 abbrev pub EndsNow : ℕ → List Watched → Running → Running → Type 0

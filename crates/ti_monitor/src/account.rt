@@ -12,13 +12,14 @@ use ti_pprof::{Counts, Frame};
 const MOST: u64 = 1 << 62;
 
 /// The stacks of a reading that were counted, and those that are owed. Each tick at a thread owes one, which is counted when
-/// the thread has answered, or when it is known that it won't. So the stacks that were counted and those that are owed are as many as the ticks at threads.
+/// the thread has answered, or when it is known that it won't. A tick at a thread that turns out not to be alive is taken back. So the
+/// stacks that were counted and those that are owed are as many as the other ticks at threads.
 #[derive(Drop)]
 pub(crate) struct Account {
     counts: Counts,
     /// How many are owed, by the thread's place.
     owed: Vec<u64>,
-    /// How many ticks at threads there were.
+    /// How many ticks at threads there were that were not taken back.
     thread_ticks: u64,
     /// Stacks that were counted as they are, those that were counted as late, and those that were never seen.
     at_once: u64,
@@ -32,7 +33,7 @@ pub(crate) struct Account {
 impl Account {
     ghost use Rattle.std.specs.Prelude.{◌⊎◌, ◌∷◌, ◌<◌, OnOk, OnErr, IfOk, IfErr, drop, length};
     ghost use Rattle.std.specs.Bool.{OnTrue, OnFalse};
-    ghost use Rattle.ti_monitor.specs.Accounts.{Answers, HasRoom, IsEmpty, IsExhausted, IsSame, IsUncounted, Loses, LosesUpTo, OwesAsBefore, TicksAt, Widens, owed_at};
+    ghost use Rattle.ti_monitor.specs.Accounts.{Answers, HasRoom, IsEmpty, IsExhausted, IsSame, IsUncounted, Loses, LosesUpTo, OwesAsBefore, TakesBack, TicksAt, Widens, owed_at};
     ghost use Rattle.ti_monitor.specs.Counting.{frame};
     ghost use Rattle.ti_monitor.specs.Watching.{label_at};
 
@@ -116,9 +117,18 @@ impl Account {
         owed
     }
 
+    /// Takes back the ticks at a place, whose thread is not alive: no stack is owed there any more, and none is counted.
+    #[tactic(auto, using(crate::proofs::Sums::sum_set))]
+    pub(crate) fn take_back(&mut self, place: usize)
+        ensures { TakesBack self.old self.new place }
+    {
+        let owed = take_at(&mut self.owed, place);
+        self.thread_ticks -= owed;
+    }
+
     /// Counts all that is owed under the frame `(did not answer)`, place by place. It gives how much that was.
     pub(crate) fn settle(&mut self, watched: &[Watched], kept: Labels) -> u64
-        ensures loses { LosesUpTo self.old self.new (length self.old.owed.items) (frame 1 0) (label_at watched.now kept) }
+        ensures loses { LosesUpTo self.old self.new (length self.old.owed.items) (frame 0 0) (label_at watched.now kept) }
         ensures all { self.new.counts.total ≡ self.new.thread_ticks }
         ensures ticks { self.new.thread_ticks ≡ self.old.thread_ticks }
         ensures owed { result ≡ sum self.old.owed.items }
@@ -151,7 +161,7 @@ impl Account {
         self.owed.len()
     }
 
-    /// How many ticks at threads there were.
+    /// How many ticks at threads there were that were not taken back.
     pub(crate) fn thread_ticks(&self) -> u64
         ensures { result ≡ self.now.thread_ticks }
     {

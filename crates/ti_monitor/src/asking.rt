@@ -20,8 +20,8 @@ const TRACE: Call = Call::Trace {
 #[derive(Drop)]
 pub(crate) enum Told {
     Stack(TraceBuf),
-    /// It has ended.
-    Ended,
+    /// It has not started, or has ended.
+    NotAlive,
     /// It was refused for another reason.
     Unanswered,
     /// It has not answered yet, or could not be asked yet.
@@ -44,7 +44,7 @@ fn refused_by(error: TiError) -> Told
     ensures { IsRefusedBy error result }
 {
     match error {
-        TiError::ThreadNotAlive => Told::Ended,
+        TiError::ThreadNotAlive => Told::NotAlive,
         TiError::Busy => Told::NotYet,
         _ => Told::Unanswered,
     }
@@ -77,23 +77,52 @@ pub(crate) fn probe_if_there(alloc: Global, agent: &mut Agent, watched: &mut Wat
     let _as_before = probe(alloc, agent, watched);
 }
 
-/// Asks a thread at which no call is out for its state and its stack. One that has not started has no frames.
-pub(crate) fn ask(alloc: Global, agent: &mut Agent, watched: &mut Watched, now: u64) -> Told
-    ensures tells { TellsAtOnce agent.old agent.new watched.old watched.new result }
+/// What a thread told of its stack, if it then told its state. One that has ended since tells no stack.
+fn seen_with(told: Told, has_ended: bool) -> Told
+    ensures { result ≡ seen_with has_ended told }
+{
+    match told {
+        Told::Stack(trace) => {
+            if has_ended {
+                Told::NotAlive
+            } else {
+                Told::Stack(trace)
+            }
+        }
+        Told::NotAlive => Told::NotAlive,
+        Told::Unanswered => Told::Unanswered,
+        Told::NotYet => Told::NotYet,
+    }
+}
+
+/// What a thread told of its stack, if it then did not tell its state. A stack without a state is none.
+fn unseen_by(told: Told, error: TiError) -> Told
+    ensures { IsUnseenBy error told result }
+{
+    match told {
+        Told::Stack(_) => refused_by(error),
+        Told::NotAlive => Told::NotAlive,
+        Told::Unanswered => Told::Unanswered,
+        Told::NotYet => Told::NotYet,
+    }
+}
+
+/// Asks a thread for its state after its stack. So no stack is counted under a state that is older.
+fn see_after(alloc: Global, agent: &mut Agent, watched: &mut Watched, told: Told) -> Told
+    ensures sees { SeesAfter agent.old agent.new watched.old watched.new told result }
     ensures thread { watched.new.thread ≡ watched.old.thread }
 {
-    if watched.gone {
-        return Told::Ended;
+    match probe(alloc, agent, watched) {
+        Ok(()) => seen_with(told, watched.has_ended()),
+        Err(error) => unseen_by(told, error),
     }
-    if let Err(error) = probe(alloc, agent, watched) {
-        return refused_by(error);
-    }
-    if watched.has_ended() {
-        return Told::Ended;
-    }
-    if watched.is_new() {
-        return Told::Stack(TraceBuf::none());
-    }
+}
+
+/// Asks a thread at which no call is out for its stack.
+fn ask_stack(alloc: Global, agent: &mut Agent, watched: &mut Watched, now: u64) -> Told
+    ensures asks { AsksStack agent.old agent.new watched.old watched.new result }
+    ensures thread { watched.new.thread ≡ watched.old.thread }
+{
     match agent.post_now(alloc, watched.thread, TRACE) {
         Ok(Asked::Answered(answer)) => told_by(answer),
         Ok(Asked::Waiting(ticket)) => {
@@ -104,14 +133,26 @@ pub(crate) fn ask(alloc: Global, agent: &mut Agent, watched: &mut Watched, now: 
     }
 }
 
+/// Asks a thread at which no call is out for its stack, and then for its state. One that was let go of is asked nothing.
+pub(crate) fn ask(alloc: Global, agent: &mut Agent, watched: &mut Watched, now: u64) -> Told
+    ensures tells { TellsAtOnce agent.old agent.new watched.old watched.new result }
+    ensures thread { watched.new.thread ≡ watched.old.thread }
+{
+    if watched.gone {
+        return Told::NotAlive;
+    }
+    let told = ask_stack(alloc, agent, watched, now);
+    see_after(alloc, agent, watched, told)
+}
+
 /// Collects the answer to the call that is out at a thread.
-pub(crate) fn collect(
+fn collect_stack(
     agent: &mut Agent,
     watched: &mut Watched,
     answers: &mut Histogram,
     now: u64,
 ) -> Told
-    ensures tells { TellsLater agent.old agent.new watched.old watched.new result }
+    ensures collects { CollectsStack agent.old agent.new watched.old watched.new result }
     ensures thread { watched.new.thread ≡ watched.old.thread }
 {
     let Some(out) = watched.out else {
@@ -127,7 +168,24 @@ pub(crate) fn collect(
     }
 }
 
+/// Collects the answer to the call that is out at a thread, and then asks for its state.
+pub(crate) fn collect(
+    alloc: Global,
+    agent: &mut Agent,
+    watched: &mut Watched,
+    answers: &mut Histogram,
+    now: u64,
+) -> Told
+    ensures tells { TellsLater agent.old agent.new watched.old watched.new result }
+    ensures thread { watched.new.thread ≡ watched.old.thread }
+{
+    match collect_stack(agent, watched, answers, now) {
+        Told::NotYet => Told::NotYet,
+        told => see_after(alloc, agent, watched, told),
+    }
+}
+
 ghost use Rattle.std.specs.Prelude.{◌≡◌, IfErr, OnOk, OnErr};
 ghost use Rattle.ti_types.specs.declared.call.Call.TheVariants.{State};
 ghost use Rattle.ti_types.specs.declared.error.TiError.TheVariants.{ThreadNotAlive};
-ghost use Rattle.ti_monitor.specs.Asking.{IsNotAlive, IsRefusedBy, IsToldBy, MayProbe, Probes, ProbesNot, TellsAtOnce, TellsLater};
+ghost use Rattle.ti_monitor.specs.Asking.{AsksStack, CollectsStack, IsNotAlive, IsRefusedBy, IsToldBy, IsUnseenBy, MayProbe, Probes, ProbesNot, SeesAfter, TellsAtOnce, TellsLater, seen_with};

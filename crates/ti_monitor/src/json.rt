@@ -75,7 +75,7 @@ fn thread_at(
     let frames = frames_value(alloc, &names.functions, &frames)?;
     let known = text_at(&details.threads, place);
     let name = known.unwrap_or(UNKNOWN);
-    let state = state_of(&names.states, row);
+    let state = state_of(&names.states, row, seen);
     thread_value(alloc, name, seen, state, frames)
 }
 

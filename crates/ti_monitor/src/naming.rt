@@ -12,7 +12,7 @@ use ti_service::{Agent, ClassCalls, ClassError, MethodName};
 use ti_types::MethodNo;
 
 /// The names of the functions that are no method's, in the order of their places.
-const BARE_NAMES: [&str; 3] = ["(ended)", "(did not answer)", "(late)"];
+const BARE_NAMES: [&str; 2] = ["(did not answer)", "(late)"];
 
 /// A function of which only the name is known. The error is lack of memory.
 fn named(alloc: Global, name: String) -> Function {
@@ -156,6 +156,7 @@ pub(crate) fn seen_of(alloc: Global, watched: &[Watched]) -> Result<Vec<Seen>, A
         seen.push(Seen {
             thread: one.thread,
             priority: one.priority,
+            state: one.named_state(),
         })?;
     }
     Ok(seen)

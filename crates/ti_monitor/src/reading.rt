@@ -25,6 +25,8 @@ pub struct Seen {
     pub thread: ThreadNo,
     /// As it was attached with.
     pub priority: i32,
+    /// The state in which it was last seen: a place in `names.states`.
+    pub state: u32,
 }
 
 /// What texts tell beyond the names of a profile.

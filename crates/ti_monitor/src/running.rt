@@ -80,7 +80,7 @@ pub(crate) fn is_profile(order: Order) -> bool
 }
 
 impl Running {
-    ghost use Rattle.ti_monitor.specs.Counted.{CountsLost, CountsStack, waits_for};
+    ghost use Rattle.ti_monitor.specs.Counted.{CountsLost, CountsStack, TakesBackAt, waits_for};
     ghost use Rattle.ti_monitor.specs.Accounts.{HasRoom};
     ghost use Rattle.ti_monitor.specs.Orders.{labels_in};
     ghost use Rattle.ti_monitor.specs.Deadlines.{IsNextOf, waits_at_all};
@@ -237,6 +237,18 @@ impl Running {
         }
         let label = label_at(watched, place, self.labels());
         self.account.lose(place, bare(function), label)
+    }
+
+    /// Takes back the ticks at a place, whose thread is not alive.
+    pub(crate) fn take_back(&mut self, place: usize)
+        ensures takes { TakesBackAt place self.old self.new }
+        ensures no { self.new.no ≡ self.old.no }
+        ensures order { self.new.order ≡ self.old.order }
+    {
+        if self.has_ended() {
+            return;
+        }
+        self.account.take_back(place);
     }
 
     /// Whether it is to end: its time has passed, and no stack is owed, or the patience is over.

@@ -6,7 +6,7 @@ use crate::metrics::Metrics;
 use crate::monitor::ReadingNo;
 use crate::reading::Order;
 use crate::running::{Running, is_profile};
-use crate::stack::{ENDED, Stack, UNANSWERED};
+use crate::stack::{Stack, UNANSWERED};
 use crate::watched::Watched;
 use std::alloc::{AllocError, Global};
 use ti_service::Agent;
@@ -27,7 +27,7 @@ pub(crate) struct Readings {
 
 impl Readings {
     ghost use Rattle.std.specs.List.{AllZip, list_any};
-    ghost use Rattle.ti_monitor.specs.Counted.{AreNamed, CountsLost, CountsStack, KnowsMore, waits_for};
+    ghost use Rattle.ti_monitor.specs.Counted.{AreNamed, CountsLost, CountsStack, KnowsMore, TakesBackAt, waits_for};
     ghost use Rattle.ti_monitor.specs.Deadlines.{IsNextIn, wait_at_all, waits_at_all};
     ghost use Rattle.ti_monitor.specs.Sampling.{AsksAt, AsksUpTo, CollectsUpTo, CountsTold, EachGoesOn, sampling};
 
@@ -106,6 +106,17 @@ impl Readings {
         }
     }
 
+    /// The thread at a place is not alive.
+    fn take_back(&mut self, place: usize)
+        ensures takes { AllZip (TakesBackAt place) self.old.running.items self.new.running.items }
+        ensures methods { self.new.methods ≡ self.old.methods }
+        ensures orders { orders_of self.new.running.items ≡ orders_of self.old.running.items }
+    {
+        for reading in self.running.iter_mut() {
+            reading.take_back(place);
+        }
+    }
+
     /// The thread at a place has told something of its stack.
     fn tell(
         &mut self,
@@ -123,7 +134,7 @@ impl Readings {
     {
         match told {
             Told::NotYet => (),
-            Told::Ended => self.lose(place, ENDED, watched, metrics),
+            Told::NotAlive => self.take_back(place),
             Told::Unanswered => self.lose(place, UNANSWERED, watched, metrics),
             Told::Stack(trace) => match self.take(alloc, agent, trace.frames()) {
                 Ok(()) => self.answer(place, watched, metrics),
@@ -145,7 +156,7 @@ impl Readings {
         ensures orders { orders_of self.new.running.items ≡ orders_of self.old.running.items }
     {
         for place in 0..watched.len() {
-            let told = collect(agent, &mut watched[place], &mut metrics.answers, now);
+            let told = collect(alloc, agent, &mut watched[place], &mut metrics.answers, now);
             self.tell(alloc, agent, place, told, watched, metrics);
         }
     }

@@ -5,13 +5,11 @@ use std::alloc::{AllocError, Global};
 use ti_pprof::Frame;
 
 /// The functions of frames that are no method's, by their places among a profile's functions. The methods follow them.
-pub(crate) const ENDED: u32 = 0;
+pub(crate) const UNANSWERED: u32 = 0;
 
-pub(crate) const UNANSWERED: u32 = 1;
+pub(crate) const LATE: u32 = 1;
 
-pub(crate) const LATE: u32 = 2;
-
-pub(crate) const NAMED: u32 = 3;
+pub(crate) const NAMED: u32 = 2;
 
 /// The frame of one of these functions.
 pub(crate) fn bare(function: u32) -> Frame
@@ -36,7 +34,7 @@ impl Stack {
 
     /// Begins a stack anew. The error is lack of memory.
     pub(crate) fn begin(&mut self) -> Result<(), AllocError>
-        ensures { OnOk result (self.new.frames.items ≡ frame 2 0 ∷ []) }
+        ensures { OnOk result (self.new.frames.items ≡ frame 1 0 ∷ []) }
     {
         self.frames.clear();
         self.frames.push(bare(LATE))?;

@@ -1,5 +1,6 @@
 //! What was read of a thread: its state and its frames.
 
+use crate::reading::Seen;
 use std::alloc::{AllocError, Global};
 use ti_pprof::{Frame, Node, Row};
 
@@ -43,13 +44,13 @@ pub(crate) fn text_at(texts: &[String], place: usize) -> Option<&str>
     }
 }
 
-/// The text of the state at a place, if there is a sample and its state has a name.
-pub(crate) fn state_of(states: &[String], row: Option<Row>) -> Option<&str>
-    ensures { option_map (λ t. t.now) result ≡ state_of states.now row }
+/// The text of a thread's state: that of its sample, or without a sample the one in which it was last seen.
+pub(crate) fn state_of(states: &[String], row: Option<Row>, seen: Seen) -> Option<&str>
+    ensures { option_map (λ t. t.now) result ≡ state_of states.now row seen }
 {
     match row {
         Some(row) => text_at(states, row.state as usize),
-        None => None,
+        None => text_at(states, seen.state as usize),
     }
 }
 

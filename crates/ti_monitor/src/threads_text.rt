@@ -53,7 +53,7 @@ fn push_thread(
 {
     let known = text_at(&details.threads, place);
     let name = known.unwrap_or(UNKNOWN);
-    let state = state_of(&names.states, row).unwrap_or(UNKNOWN);
+    let state = state_of(&names.states, row, seen).unwrap_or(UNKNOWN);
     let frames = frames_in(*out.allocator(), nodes, row)?;
     push_thread_head(out, name, seen, state)?;
     push_frames(out, &names.functions, &details.natives, &frames)?;

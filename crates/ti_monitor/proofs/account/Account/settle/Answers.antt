@@ -11,7 +11,7 @@ loop-place-preserved c =
     let old = c.loop-place.self in
     let here = rw (c.bare.ensures, c.label_at.ensures) at c.lose.ensures.loses in
     record {
-      loses = settles_more c.args.self.now old c.lose.new.self c.loop-place.place (frame 1 0) (label_at c.args.watched.now c.args.kept) c.loop-place.invariant.loses here;
+      loses = settles_more c.args.self.now old c.lose.new.self c.loop-place.place (frame 0 0) (label_at c.args.watched.now c.args.kept) c.loop-place.invariant.loses here;
       paid = λ k h. rw c.lose.ensures.loses.1.0 (paid_more old.owed.items c.loop-place.place c.loop-place.invariant.paid k h);
       same = ap length c.lose.ensures.loses.1.0 ∙ length-set old.owed.items c.loop-place.place 0 ∙ c.loop-place.invariant.same;
       ticks = c.lose.ensures.loses.1.1 ∙ c.loop-place.invariant.ticks;
