@@ -3,4 +3,5 @@ mod ConcernLaws
 mod AgreementLaws
 mod PostingAlike
 mod RunLaws
+mod ListLaws
 mod StopShareLaws

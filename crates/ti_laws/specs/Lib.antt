@@ -1,4 +1,5 @@
 pub mod Concerns
 pub mod Agreement
 pub mod Runs
+pub mod Lists
 pub mod StopShares

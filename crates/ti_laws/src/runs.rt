@@ -27,5 +27,11 @@ pub fn runs_agree()
     ensures { RunsAgree }
 {}
 
+/// A call that is tried at each thread of a list is a post at each, one after another: [`runs_agree`] speaks of it, too.
+pub fn lists_are_deeds()
+    ensures { ListsAreDeeds }
+{}
+
 ghost use Rattle.ti_laws.specs.Agreement.{CallsAgree, CancelsAgree, DiscardsAgree, DiscardsTellAlike, ElsewhereStays, LooksAgree, PostRefusalsAgree, PostsAgree, RefusalsAgree};
+ghost use Rattle.ti_laws.specs.Lists.{ListsAreDeeds};
 ghost use Rattle.ti_laws.specs.Runs.{RunsAgree};
