@@ -42,6 +42,10 @@ class AtTwoScripts(unittest.TestCase):
         self.assertRegex(self.jdb.say("threads"), r"\AGroup main:\n  \(\S+\)(0x)?1 waits\.lua +sleeping\n"
                                                   r"  \(\S+\)(0x)?2 spins\.lua +running\n\Z")
 
+    def test_thread_groups(self):
+        self.assertRegex(self.jdb.say("threadgroups"), r"\A1\. \(java\.lang\.ThreadGroup\)(0x)?[0-9a-f]+ main\n\Z")
+        self.assertRegex(self.jdb.say("threads main"), r"waits\.lua +sleeping\n.*spins\.lua +running")
+
     def test_one_thread(self):
         say = self.jdb.say
         self.assertEqual(say("where 1"), RUNS)

@@ -13,7 +13,8 @@ THREAD_START = 6
 PATIENCE = 60  # seconds
 # What ids count from, by their kinds.
 GROUP, CLASSES, METHODS = 1 << 33, 2 << 33, 3 << 33
-NOTHING = 0, (1 << 32) + 1, 9 << 33, 1 << 63, (1 << 64) - 1  # ids of no kind
+GROUP_CLASS = 9 << 33
+NOTHING = 0, (1 << 32) + 1, 10 << 33, 1 << 63, (1 << 64) - 1  # ids of no kind
 
 
 def event_request(kind, policy, count, modifiers=b""):
@@ -107,8 +108,9 @@ class Malformed(unittest.TestCase):
     def test_ids_of_other_kinds(self):
         for number in NOTHING:
             self.errors(INVALID_THREAD_GROUP, *((12, command, ids(number)) for command in (1, 2, 3)))
+        for number in NOTHING + (CLASSES, METHODS):
+            self.errors(INVALID_OBJECT, (9, 1, ids(number)), (9, 9, ids(number)))
         for number in NOTHING + (GROUP, CLASSES, METHODS):
-            self.errors(INVALID_OBJECT, (9, 1, ids(number)))
             self.errors(INVALID_THREAD, *((11, command, ids(number)) for command in (1, 2, 3, 4, 5, 7, 12)),
                         (11, 6, ids(number) + b"\0" * 8))
         for number in NOTHING + (1, GROUP, METHODS):

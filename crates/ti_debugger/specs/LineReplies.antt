@@ -55,6 +55,10 @@ HasLines log method l = IsSomeAnd (method_at log method) (λ m. AreLines l m.lin
 abbrev pub Declares : List ClassInfo → ℕ → MethodNo → Type 0
 Declares log class m = (c : ℕ) × (number_from first_class class ≡ Some c) × IsDeclaredBy log m (record { 0 = c })
 
+-- no: a method that the class with this id declares is as it was defined
+abbrev pub IsNotObsolete : List ClassInfo → ℕ → ℕ → List ℕ → Type 0
+IsNotObsolete log class method body = (m : MethodNo) × (number_from first_method method ≡ Some m.0) × Declares log class m × (body ≡ 0 ∷ [])
+
 -- the lines of the method with this id, which the class with this id declares, as they were defined
 abbrev pub TellsLines : List ClassInfo → ℕ → ℕ → List ℕ → Type 0
 TellsLines log class method body =

@@ -1,5 +1,5 @@
 -- What the body of a reply says.
-use Rattle.std.specs.Prelude.{ℕ, suc, ◌≡◌, ◌++◌, ◌==◌, true, false, List, [], ◌∷◌, Some, length, map, filter, bytes_eq, codes, string_bytes, if◌then◌else◌}
+use Rattle.std.specs.Prelude.{ℕ, suc, ◌≡◌, ◌⊎◌, ◌++◌, ◌==◌, true, false, List, [], ◌∷◌, Some, length, map, filter, bytes_eq, codes, string_bytes, if◌then◌else◌}
 use Rattle.std.specs.Fmt.{decimal}
 use mathlib.Core.List.{IsPrefix}
 use Rattle.ti_jdwp.specs.Bodies.{found_list, list, thread_list}
@@ -17,14 +17,14 @@ use Rattle.ti_debugger.specs.declared.desk.Desk.{Desk}
 use Rattle.ti_debugger.specs.declared.watched.Watched.{Watched}
 use Rattle.ti_debugger.specs.Crowds.{alive_in}
 use Rattle.ti_debugger.specs.Sources.{file_in}
-use Rattle.ti_debugger.specs.LineReplies.{TellsLines}
+use Rattle.ti_debugger.specs.LineReplies.{IsNotObsolete, TellsLines}
 use Rattle.ti_debugger.specs.MethodReplies.{TellsMethods}
 use Rattle.ti_debugger.specs.Pops.{PopsFrames, can_pop, capabilities_text}
 use Rattle.ti_debugger.specs.StackReplies.{IsWatched, TellsDepth, TellsFrames, TellsState}
 use Rattle.ti_debugger.specs.VariableReplies.{TellsClass, TellsEntries, TellsFrame, TellsLength, TellsText, TellsVariables}
 
 abbrev pub version_text : About → List ℕ
-version_text about = text (string_bytes about.description) ++ int 1 ++ int 8 ++ text (string_bytes about.version) ++ text (string_bytes about.name)
+version_text about = text (string_bytes about.description) ++ int 1 ++ int 5 ++ text (string_bytes about.version) ++ text (string_bytes about.name)
 
 abbrev pub paths_text : About → List ℕ
 paths_text about = text (string_bytes about.base) ++ int 1 ++ text (string_bytes about.path) ++ int 0
@@ -86,6 +86,7 @@ IsBodyOf (request.FrameCount id) bytes old new body = (thread : ℕ) × (number_
 IsBodyOf (request.Frames id start length) bytes old new body = (thread : ℕ) × (number_from first_thread id ≡ Some thread) × TellsFrames old new thread start length body
 IsBodyOf (request.MethodsWithGeneric id) bytes old new body = TellsMethods (classes_of new.agent) id body
 IsBodyOf (request.LineTable class method) bytes old new body = TellsLines (classes_of new.agent) class method body
+IsBodyOf (request.IsObsolete class method) bytes old new body = IsNotObsolete (classes_of new.agent) class method body
 IsBodyOf request.AllClasses bytes old new body = TellsAllClasses (classes_of old.agent) (classes_of new.agent) body
 IsBodyOf (request.ClassesBySignature range) bytes old new body = TellsFound (bytes_at range bytes) (classes_of old.agent) (classes_of new.agent) body
 IsBodyOf (request.Signature id) bytes old new body = TellsOfClass IsSignature (classes_of new.agent) id text body

@@ -36,7 +36,7 @@ abbrev pub state_text : Option ℕ → List ℕ
 state_text None = signed (pos 0) ++ int (flag false)
 state_text (Some bits) = signed (status_of bits) ++ int (flag (is_suspended bits))
 
--- a thread that is watched has ended, or it was asked for its state, and told these bits
+-- a thread that is watched has ended, or it is not watched any more, or it was asked for its state, and told these bits
 abbrev pub HasState : Desk → Desk → ℕ → Option ℕ → Type 0
 HasState old new thread bits =
     ((one : Watched) × IsWatched old.crowd.list.items thread one × (one.ended ≡ true) × (bits ≡ None))

@@ -46,6 +46,7 @@ impl Desk {
             Request::SourceFile(class) => self.source_file(class),
             Request::MethodsWithGeneric(class) => self.methods(class),
             Request::LineTable { class, method } => self.line_table(class, method),
+            Request::IsObsolete { class, method } => self.is_obsolete(class, method),
             Request::VariableTable { class, method } => self.variables(class, method, false),
             Request::VariableTableWithGeneric { class, method } => {
                 self.variables(class, method, true)
@@ -117,7 +118,7 @@ impl Desk {
     fn all_threads(&self) -> Result<Vec<u8>, Refusal>
         ensures { IfOk result (λ v. v.items ≡ thread_list (alive_in self.now.crowd.list.items)) }
     {
-        let threads = self.crowd.alive(self.alloc)?;
+        let threads = self.crowd.live(self.alloc)?;
         Ok(threads_body(self.alloc, threads.as_slice())?)
     }
 
@@ -125,7 +126,7 @@ impl Desk {
     fn group_children(&self) -> Result<Vec<u8>, Refusal>
         ensures { IfOk result (λ v. v.items ≡ thread_list (alive_in self.now.crowd.list.items) ++ int 0) }
     {
-        let threads = self.crowd.alive(self.alloc)?;
+        let threads = self.crowd.live(self.alloc)?;
         Ok(group_children_body(self.alloc, threads.as_slice())?)
     }
 

@@ -4,8 +4,8 @@ use crate::desk::Desk;
 use crate::refusal::Refusal;
 use std::alloc::{AllocError, Global};
 use ti_jdwp::{
-    JdwpError, LineRow, MethodRow, class_of, identity_lines_body, line_table_body, method_of,
-    methods_body,
+    JdwpError, LineRow, MethodRow, class_of, collected_body, identity_lines_body, line_table_body,
+    method_of, methods_body,
 };
 use ti_service::{ClassCalls, ClassError, ClassNo, LineEntry, Lines};
 use ti_types::MethodNo;
@@ -141,6 +141,15 @@ impl Desk {
         Ok(MethodNo(method))
     }
 
+    /// That a method is not obsolete (6/4): no class is defined anew. 21 or 23 if the class has no such method.
+    pub(crate) fn is_obsolete(&mut self, class: u64, method: u64) -> Result<Vec<u8>, Refusal>
+        ensures told { IfOk result (λ v. IsNotObsolete (classes_of self.new.agent) class method v.items) }
+        ensures rest { self.new ≡ record self.old { agent = self.new.agent } }
+    {
+        let _it_is_there = self.method_in(class, method)?;
+        Ok(collected_body(self.alloc, false)?)
+    }
+
     /// The lines of a method, if they are known.
     fn lines_of(&mut self, method: MethodNo) -> Result<Lines, ClassError>
         ensures told { IfOk result (λ l. HasLines (classes_of self.new.agent) method l) }
@@ -172,5 +181,5 @@ ghost use mathlib.Core.List.{IsPrefix};
 ghost use Rattle.ti_jdwp.specs.Bodies.{list};
 ghost use Rattle.ti_jdwp.specs.Ids.{number_from, first_method};
 ghost use Rattle.ti_service.specs.Classes.{classes_of};
-ghost use Rattle.ti_debugger.specs.LineReplies.{Declares, HasLines, TellsLines, TellsTable, index_of, lines_for, row_of};
+ghost use Rattle.ti_debugger.specs.LineReplies.{Declares, HasLines, IsNotObsolete, TellsLines, TellsTable, index_of, lines_for, row_of};
 ghost use Rattle.ti_debugger.specs.MethodReplies.{IsKnown, TellsMethods, known_method, method_item};

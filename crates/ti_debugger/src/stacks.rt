@@ -127,7 +127,8 @@ impl Desk {
         }
     }
 
-    /// The bits of a thread's state, `None` if it has ended. 10 INVALID_THREAD if it is not watched.
+    /// The bits of a thread's state, `None` if it has ended, or is not watched any more. 10 INVALID_THREAD if no thread with a higher
+    /// number is watched either.
     fn state_bits(&mut self, thread: u32) -> Result<Option<u32>, Refusal>
         ensures told { IfOk result (λ bits. HasState self.old self.new thread bits) }
         ensures rest { self.new ≡ record self.old { agent = self.new.agent } }

@@ -61,6 +61,7 @@ rows =
     ∷ row 3 1 (of_id (λ id. request.Superclass id))
     ∷ row 6 1 (of_two_ids (λ class method. request.LineTable class method))
     ∷ row 6 2 (of_two_ids (λ class method. request.VariableTable class method))
+    ∷ row 6 4 (of_two_ids (λ class method. request.IsObsolete class method))
     ∷ row 6 5 (of_two_ids (λ class method. request.VariableTableWithGeneric class method))
     ∷ row 9 1 (of_id (λ id. request.ReferenceType id))
     ∷ row 9 9 (of_id (λ id. request.IsCollected id))

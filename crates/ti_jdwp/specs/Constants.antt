@@ -3,7 +3,7 @@ use Rattle.std.specs.Prelude.{ℕ, List, [], ◌∷◌, ◌++◌, replicate}
 use Rattle.ti_jdwp.specs.declared.plan.Constant.{Constant}
 use Rattle.ti_jdwp.specs.declared.plan.Constant.TheVariants as constant
 use Rattle.ti_jdwp.specs.Fields.{int, long, text}
-use Rattle.ti_jdwp.specs.Ids.{thread_group, thread_class}
+use Rattle.ti_jdwp.specs.Ids.{thread_group, thread_class, group_class}
 
 -- "main"
 abbrev pub group_name : List ℕ
@@ -12,6 +12,10 @@ group_name = 109 ∷ 97 ∷ 105 ∷ 110 ∷ []
 -- "Ljava/lang/Thread;"
 abbrev pub thread_signature : List ℕ
 thread_signature = 76 ∷ 106 ∷ 97 ∷ 118 ∷ 97 ∷ 47 ∷ 108 ∷ 97 ∷ 110 ∷ 103 ∷ 47 ∷ 84 ∷ 104 ∷ 114 ∷ 101 ∷ 97 ∷ 100 ∷ 59 ∷ []
+
+-- "Ljava/lang/ThreadGroup;"
+abbrev pub group_signature : List ℕ
+group_signature = 76 ∷ 106 ∷ 97 ∷ 118 ∷ 97 ∷ 47 ∷ 108 ∷ 97 ∷ 110 ∷ 103 ∷ 47 ∷ 84 ∷ 104 ∷ 114 ∷ 101 ∷ 97 ∷ 100 ∷ 71 ∷ 114 ∷ 111 ∷ 117 ∷ 112 ∷ 59 ∷ []
 
 -- "Ljava/lang/String;"
 abbrev pub text_signature : List ℕ
@@ -34,8 +38,11 @@ constant_bytes constant.False = 0 ∷ []
 constant_bytes constant.Public = int 1
 constant_bytes constant.Initialized = int 7
 constant_bytes constant.ThreadClass = 1 ∷ long thread_class
+constant_bytes constant.GroupClass = 1 ∷ long group_class
 constant_bytes constant.ThreadSignature = text thread_signature
 constant_bytes constant.ThreadGenericSignature = text thread_signature ++ text []
+constant_bytes constant.GroupSignature = text group_signature
+constant_bytes constant.GroupGenericSignature = text group_signature ++ text []
 constant_bytes constant.TextSignature = text text_signature
 constant_bytes constant.TextGenericSignature = text text_signature ++ text []
 constant_bytes constant.TableSignature = text table_signature

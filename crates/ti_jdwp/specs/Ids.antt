@@ -42,6 +42,9 @@ text_class = 7 * 2 ^ 33
 abbrev pub table_class : ℕ
 table_class = 8 * 2 ^ 33
 
+abbrev pub group_class : ℕ
+group_class = 9 * 2 ^ 33
+
 -- the id of a number, in the range that begins at first
 abbrev pub id_from : ℕ → ℕ → ℕ
 id_from first n = first + n
@@ -61,10 +64,11 @@ frame_id thread depth = thread * 2 ^ 32 + depth
 abbrev pub IsUndone : ℕ → Type 0
 IsUndone first = (n id : ℕ) → n < 2 ^ 32 → (number_from first (id_from first n) ≡ Some n) × (number_from first id ≡ Some n → id_from first n ≡ id)
 
--- which kinds an id has: thread, group, class, method, class of threads, text, table, class of texts, class of tables
+-- which kinds an id has: thread, group, class, method, class of threads, text, table, class of texts, class of tables, class of
+-- the group
 abbrev pub kinds_with : ℕ → List Bool
 kinds_with id = is_from first_thread id ∷ (id == thread_group) ∷ is_from first_class id ∷ is_from first_method id ∷ (id == thread_class)
-    ∷ is_from first_text id ∷ is_from first_table id ∷ (id == text_class) ∷ (id == table_class) ∷ []
+    ∷ is_from first_text id ∷ is_from first_table id ∷ (id == text_class) ∷ (id == table_class) ∷ (id == group_class) ∷ []
 
 abbrev pub AtMostOne : List Bool → Type 0
 AtMostOne tests = count_by (λ b. b) tests ≤ 1

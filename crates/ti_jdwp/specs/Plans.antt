@@ -9,7 +9,7 @@ use Rattle.ti_jdwp.specs.declared.plan.Plan.{Plan}
 use Rattle.ti_jdwp.specs.declared.plan.Plan.TheVariants as plan
 use Rattle.ti_jdwp.specs.declared.request.Request.{Request}
 use Rattle.ti_jdwp.specs.declared.request.Request.TheVariants as request
-use Rattle.ti_jdwp.specs.Ids.{number_from, first_thread, first_class, first_method, first_text, first_table, thread_class, text_class, table_class, thread_group}
+use Rattle.ti_jdwp.specs.Ids.{number_from, first_thread, first_class, first_method, first_text, first_table, thread_class, group_class, text_class, table_class, thread_group}
 
 abbrev pub session_number : SessionError → ℕ
 session_number session_error.OutOfMemory = 110
@@ -31,14 +31,15 @@ at_group id p = if id == thread_group then p else plan.Refuse error.InvalidThrea
 
 abbrev pub at_class : ℕ → Plan → Plan → Plan
 at_class id objects others =
-    if (id == thread_class || id == text_class) || id == table_class then objects
+    if ((id == thread_class || id == group_class) || id == text_class) || id == table_class then objects
     else (if is_some (number_from first_class id) then others else plan.Refuse error.InvalidClass)
 
-abbrev pub signature_of : ℕ → Constant → Constant → Constant → Plan
-signature_of id threads texts tables =
-    if id == text_class then plan.Constant texts
+abbrev pub signature_of : ℕ → Constant → Constant → Constant → Constant → Plan
+signature_of id threads group texts tables =
+    if id == group_class then plan.Constant group
+    else (if id == text_class then plan.Constant texts
     else (if id == table_class then plan.Constant tables
-    else at_class id (plan.Constant threads) plan.Ask)
+    else at_class id (plan.Constant threads) plan.Ask))
 
 abbrev pub at_each_class : ℕ → Constant → Plan
 at_each_class id c = at_class id (plan.Constant c) (plan.Constant c)
@@ -49,10 +50,11 @@ at_method class method =
     else (if not (is_some (number_from first_method method)) then plan.Refuse error.InvalidMethodId
     else plan.Ask)
 
-abbrev pub at_object : ℕ → Plan → Plan
-at_object id threads =
+abbrev pub at_object : ℕ → Plan → Plan → Plan
+at_object id threads group =
     if is_some (number_from first_thread id) then threads
-    else (if is_some (number_from first_text id) || is_some (number_from first_table id) then plan.Ask else plan.Refuse error.InvalidObject)
+    else (if id == thread_group then group
+    else (if is_some (number_from first_text id) || is_some (number_from first_table id) then plan.Ask else plan.Refuse error.InvalidObject))
 
 abbrev pub at_text : ℕ → Plan
 at_text id = if is_some (number_from first_text id) then plan.Ask else plan.Refuse error.InvalidObject
@@ -61,8 +63,8 @@ abbrev pub at_table : ℕ → Plan
 at_table id = if is_some (number_from first_table id) then plan.Ask else plan.Refuse error.InvalidObject
 
 abbrev pub class_plan : Request → Plan
-class_plan (request.Signature id) = signature_of id constant.ThreadSignature constant.TextSignature constant.TableSignature
-class_plan (request.SignatureWithGeneric id) = signature_of id constant.ThreadGenericSignature constant.TextGenericSignature constant.TableGenericSignature
+class_plan (request.Signature id) = signature_of id constant.ThreadSignature constant.GroupSignature constant.TextSignature constant.TableSignature
+class_plan (request.SignatureWithGeneric id) = signature_of id constant.ThreadGenericSignature constant.GroupGenericSignature constant.TextGenericSignature constant.TableGenericSignature
 class_plan (request.SourceFile id) = at_class id (plan.Refuse error.AbsentInformation) plan.Ask
 class_plan (request.MethodsWithGeneric id) = at_class id (plan.Constant constant.NoItems) plan.Ask
 class_plan (request.ClassLoader id) = at_each_class id constant.NoId
@@ -105,13 +107,14 @@ plan_of request.ReleaseEvents = plan.Release
 plan_of request.CapabilitiesNew = plan.Ask
 plan_of (request.SetEvent kind policy modifiers count) = plan.Set (record { kind = kind; policy = policy; at = modifiers.start; count = count })
 plan_of (request.ClearEvent kind number) = plan.Clear kind number
-plan_of (request.ReferenceType id) = at_object id (plan.Constant constant.ThreadClass)
-plan_of (request.IsCollected id) = at_object id (plan.Constant constant.False)
+plan_of (request.ReferenceType id) = at_object id (plan.Constant constant.ThreadClass) (plan.Constant constant.GroupClass)
+plan_of (request.IsCollected id) = at_object id (plan.Constant constant.False) (plan.Constant constant.False)
 plan_of (request.GroupName id) = at_group id (plan.Constant constant.GroupName)
 plan_of (request.GroupParent id) = at_group id (plan.Constant constant.NoId)
 plan_of (request.GroupChildren id) = at_group id plan.Ask
 plan_of (request.LineTable class method) = at_method class method
 plan_of (request.VariableTable class method) = at_method class method
+plan_of (request.IsObsolete class method) = at_method class method
 plan_of (request.VariableTableWithGeneric class method) = at_method class method
 plan_of (request.TextValue id) = at_text id
 plan_of (request.TableLength id) = at_table id

@@ -123,21 +123,22 @@ pub fn id_sizes_body(alloc: Global) -> Result<Vec<u8>, JdwpError>
     Ok(out)
 }
 
-/// The version (1/1): a description, JDWP 1.8, and the version and the name of the runtime.
+/// The version (1/1): a description, JDWP 1.5, and the version and the name of the runtime. From 1.6 on a client takes it that classes
+/// are filtered by their source names, that methods' results are told and that classes have versions, with no capability for these.
 pub fn version_body(
     alloc: Global,
     description: &[u8],
     version: &[u8],
     name: &[u8],
 ) -> Result<Vec<u8>, JdwpError>
-    ensures ok { IfOk result (λ v. v.items ≡ text description.now ++ int 1 ++ int 8 ++ text version.now ++ text name.now) }
+    ensures ok { IfOk result (λ v. v.items ≡ text description.now ++ int 1 ++ int 5 ++ text version.now ++ text name.now) }
     ensures fits { IfOk result (λ _. (length description.now < 2 ^ 31) × (length version.now < 2 ^ 31) × (length name.now < 2 ^ 31)) }
     ensures memory { IfErr result (λ e. e ≡ OutOfMemory) }
 {
     let mut out = Vec::new(alloc);
     put_text(&mut out, description)?;
     put_int(&mut out, 1)?;
-    put_int(&mut out, 8)?;
+    put_int(&mut out, 5)?;
     put_text(&mut out, version)?;
     put_text(&mut out, name)?;
     Ok(out)

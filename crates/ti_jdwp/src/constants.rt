@@ -6,7 +6,7 @@ use crate::bodies::{
     text_body,
 };
 use crate::error::JdwpError;
-use crate::ids::{THREAD_CLASS, THREAD_GROUP};
+use crate::ids::{GROUP_CLASS, THREAD_CLASS, THREAD_GROUP};
 use crate::plan::Constant;
 use std::alloc::Global;
 
@@ -15,6 +15,9 @@ const GROUP_NAME: &[u8] = b"main";
 
 /// The signature of the class of all thread objects.
 const THREAD_SIGNATURE: &[u8] = b"Ljava/lang/Thread;";
+
+/// The signature of the class of the thread group.
+const GROUP_SIGNATURE: &[u8] = b"Ljava/lang/ThreadGroup;";
 
 /// The signature of the class of all texts.
 const TEXT_SIGNATURE: &[u8] = b"Ljava/lang/String;";
@@ -40,8 +43,11 @@ pub(crate) fn constant_body(alloc: Global, constant: Constant) -> Result<Vec<u8>
         Constant::Public => int_body(alloc, 1),
         Constant::Initialized => int_body(alloc, 7),
         Constant::ThreadClass => class_of_object_body(alloc, THREAD_CLASS),
+        Constant::GroupClass => class_of_object_body(alloc, GROUP_CLASS),
         Constant::ThreadSignature => text_body(alloc, THREAD_SIGNATURE),
         Constant::ThreadGenericSignature => generic_signature_body(alloc, THREAD_SIGNATURE),
+        Constant::GroupSignature => text_body(alloc, GROUP_SIGNATURE),
+        Constant::GroupGenericSignature => generic_signature_body(alloc, GROUP_SIGNATURE),
         Constant::TextSignature => text_body(alloc, TEXT_SIGNATURE),
         Constant::TextGenericSignature => generic_signature_body(alloc, TEXT_SIGNATURE),
         Constant::TableSignature => text_body(alloc, TABLE_SIGNATURE),

@@ -11,6 +11,7 @@
 //! | 6 · 2^33 + a table's number | the table, an array of texts |
 //! | 7 · 2^33 | the class of all texts |
 //! | 8 · 2^33 | the class of all tables |
+//! | 9 · 2^33 | the class of the thread group |
 //!
 //! Frames have ids of a kind of their own: a frame's id is read only beside the id of its thread.
 
@@ -57,6 +58,9 @@ pub const TEXT_CLASS: u64 = 7 << 33;
 /// The id of the class of all tables, `[Ljava/lang/String;`.
 pub const TABLE_CLASS: u64 = 8 << 33;
 
+/// The id of the class of the thread group, `Ljava/lang/ThreadGroup;`.
+pub const GROUP_CLASS: u64 = 9 << 33;
+
 const FIRST_CLASS: u64 = 2 << 33;
 
 const FIRST_METHOD: u64 = 3 << 33;
@@ -97,8 +101,8 @@ pub fn class_id(class: u32) -> u64
     FIRST_CLASS + u64::from(class)
 }
 
-/// The class with this id. An id of another kind gives none, and so do [`THREAD_CLASS`], [`TEXT_CLASS`] and [`TABLE_CLASS`], which
-/// have no number (21 INVALID_CLASS).
+/// The class with this id. An id of another kind gives none, and so do [`THREAD_CLASS`], [`GROUP_CLASS`], [`TEXT_CLASS`] and
+/// [`TABLE_CLASS`], which have no number (21 INVALID_CLASS).
 pub fn class_of(id: u64) -> Option<u32>
     ensures { result ≡ number_from first_class id }
 {
@@ -174,7 +178,7 @@ pub fn ids_are_undone()
 {}
 
 /// An id of one kind is none of another: no thread, class, method, text or table has an id of another kind, of the group or of
-/// the class of threads, of texts or of tables.
+/// the class of threads, of the group, of texts or of tables.
 pub fn kinds_are_apart()
     ensures { (id : ℕ) → AtMostOne (kinds_with id) }
 {}

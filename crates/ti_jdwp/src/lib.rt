@@ -58,9 +58,9 @@ pub use error::JdwpError;
 pub use event_laws::events_are_told_well;
 pub use event_text::{EventRow, Occurrence, composite_body};
 pub use ids::{
-    IdKind, TABLE_CLASS, TEXT_CLASS, THREAD_CLASS, THREAD_GROUP, class_id, class_of, frame_id,
-    frame_of, ids_are_undone, kinds_are_apart, method_id, method_of, table_id, table_of, text_id,
-    text_of, thread_id, thread_of,
+    GROUP_CLASS, IdKind, TABLE_CLASS, TEXT_CLASS, THREAD_CLASS, THREAD_GROUP, class_id, class_of,
+    frame_id, frame_of, ids_are_undone, kinds_are_apart, method_id, method_of, table_id, table_of,
+    text_id, text_of, thread_id, thread_of,
 };
 pub use lists::{
     ClassRow, FrameRow, LineRow, MethodRow, classes_body, classes_found_body, frames_body,

@@ -2,8 +2,8 @@
 
 use crate::error::JdwpError;
 use crate::ids::{
-    TABLE_CLASS, TEXT_CLASS, THREAD_CLASS, THREAD_GROUP, class_of, method_of, table_of, text_of,
-    thread_of,
+    GROUP_CLASS, TABLE_CLASS, TEXT_CLASS, THREAD_CLASS, THREAD_GROUP, class_of, method_of,
+    table_of, text_of, thread_of,
 };
 use crate::request::{EventKind, Policy, Request};
 
@@ -30,8 +30,12 @@ pub(crate) enum Constant {
     Initialized,
     /// The class of all thread objects, with its tag.
     ThreadClass,
+    /// The class of the thread group, with its tag.
+    GroupClass,
     ThreadSignature,
     ThreadGenericSignature,
+    GroupSignature,
+    GroupGenericSignature,
     TextSignature,
     TextGenericSignature,
     TableSignature,
@@ -106,12 +110,12 @@ fn at_group(id: u64, plan: Plan) -> Plan
     }
 }
 
-/// A plan for the class with this id: one for the classes of all threads, texts and tables, one for all others. 21 INVALID_CLASS if
+/// A plan for the class with this id: one for the classes of all threads, the group, texts and tables, one for all others. 21 INVALID_CLASS if
 /// the id is no class's.
 fn at_class(id: u64, objects: Plan, others: Plan) -> Plan
     ensures { result ≡ at_class id objects others }
 {
-    if id == THREAD_CLASS || id == TEXT_CLASS || id == TABLE_CLASS {
+    if id == THREAD_CLASS || id == GROUP_CLASS || id == TEXT_CLASS || id == TABLE_CLASS {
         objects
     } else if class_of(id).is_some() {
         others
@@ -120,12 +124,20 @@ fn at_class(id: u64, objects: Plan, others: Plan) -> Plan
     }
 }
 
-/// The plan for the signature of the class with this id, which is this one for the class of all threads, of all texts and of all
-/// tables. 21 INVALID_CLASS if the id is no class's.
-fn signature_of(id: u64, threads: Constant, texts: Constant, tables: Constant) -> Plan
-    ensures { result ≡ signature_of id threads texts tables }
+/// The plan for the signature of the class with this id, which is this one for the class of all threads, of the group, of all texts and
+/// of all tables. 21 INVALID_CLASS if the id is no class's.
+fn signature_of(
+    id: u64,
+    threads: Constant,
+    group: Constant,
+    texts: Constant,
+    tables: Constant,
+) -> Plan
+    ensures { result ≡ signature_of id threads group texts tables }
 {
-    if id == TEXT_CLASS {
+    if id == GROUP_CLASS {
+        Plan::Constant(group)
+    } else if id == TEXT_CLASS {
         Plan::Constant(texts)
     } else if id == TABLE_CLASS {
         Plan::Constant(tables)
@@ -154,13 +166,15 @@ fn at_method(class: u64, method: u64) -> Plan
     }
 }
 
-/// A plan for an object: this one for a thread, and of a text or a table the driver says whether it is there. 20 INVALID_OBJECT if the
-/// id is none of theirs.
-fn at_object(id: u64, threads: Plan) -> Plan
-    ensures { result ≡ at_object id threads }
+/// A plan for an object: one for a thread, one for the thread group, and of a text or a table the driver says whether it is there. 20
+/// INVALID_OBJECT if the id is none of theirs.
+fn at_object(id: u64, threads: Plan, group: Plan) -> Plan
+    ensures { result ≡ at_object id threads group }
 {
     if thread_of(id).is_some() {
         threads
+    } else if id == THREAD_GROUP {
+        group
     } else if text_of(id).is_some() || table_of(id).is_some() {
         Plan::Ask
     } else {
@@ -221,13 +235,22 @@ pub(crate) fn plan_of(request: Request) -> Plan
             count,
         }),
         Request::ClearEvent { kind, request } => Plan::Clear { kind, request },
-        Request::ReferenceType(id) => at_object(id, Plan::Constant(Constant::ThreadClass)),
-        Request::IsCollected(id) => at_object(id, Plan::Constant(Constant::False)),
+        Request::ReferenceType(id) => at_object(
+            id,
+            Plan::Constant(Constant::ThreadClass),
+            Plan::Constant(Constant::GroupClass),
+        ),
+        Request::IsCollected(id) => at_object(
+            id,
+            Plan::Constant(Constant::False),
+            Plan::Constant(Constant::False),
+        ),
         Request::GroupName(id) => at_group(id, Plan::Constant(Constant::GroupName)),
         Request::GroupParent(id) => at_group(id, Plan::Constant(Constant::NoId)),
         Request::GroupChildren(id) => at_group(id, Plan::Ask),
         Request::LineTable { class, method }
         | Request::VariableTable { class, method }
+        | Request::IsObsolete { class, method }
         | Request::VariableTableWithGeneric { class, method } => at_method(class, method),
         Request::TextValue(id) => at_text(id),
         Request::TableLength(id) => at_table(id),
@@ -265,6 +288,7 @@ fn class_plan(request: Request) -> Plan
             signature_of(
                 id,
                 Constant::ThreadSignature,
+                Constant::GroupSignature,
                 Constant::TextSignature,
                 Constant::TableSignature,
             )
@@ -273,6 +297,7 @@ fn class_plan(request: Request) -> Plan
             signature_of(
                 id,
                 Constant::ThreadGenericSignature,
+                Constant::GroupGenericSignature,
                 Constant::TextGenericSignature,
                 Constant::TableGenericSignature,
             )

@@ -117,6 +117,10 @@ fn method(command: u8, bytes: &[u8]) -> Result<Request, JdwpError>
             let (class, method) = two_ids(bytes)?;
             Ok(Request::VariableTable { class, method })
         }
+        4 => {
+            let (class, method) = two_ids(bytes)?;
+            Ok(Request::IsObsolete { class, method })
+        }
         5 => {
             let (class, method) = two_ids(bytes)?;
             Ok(Request::VariableTableWithGeneric { class, method })

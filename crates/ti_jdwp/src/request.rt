@@ -181,6 +181,11 @@ pub enum Request {
         class: u64,
         method: u64,
     },
+    /// 6/4.
+    IsObsolete {
+        class: u64,
+        method: u64,
+    },
     /// 6/5.
     VariableTableWithGeneric {
         class: u64,

@@ -39,11 +39,23 @@ final class Stacks {
         Vm.same("methods of " + name, wanted, only(vm, name).methods().stream().map(Method::name).toList());
     }
 
+    /** It does not say that it filters by source names, so that JDI does not ask it to. */
+    private static void checkNoSourceNames(VirtualMachine vm) {
+        Vm.same("filters by source names", false, vm.canUseSourceNameFilters());
+        try {
+            vm.eventRequestManager().createClassPrepareRequest().addSourceNameFilter("*.lua");
+            throw new AssertionError("there is a filter by source names");
+        } catch (UnsupportedOperationException wanted) {
+            Vm.same("versions of class files", false, vm.canGetClassFileVersion());
+        }
+    }
+
     public static void main(String[] arguments) throws Exception {
         var vm = Vm.attach(arguments[0]);
         var names = vm.allThreads().stream().map(thread -> thread.name()).sorted().toList();
         Vm.same("threads", List.of("spins.lua", "waits.lua"), names);
         Vm.same("groups", 1, vm.topLevelThreadGroups().size());
+        Vm.same("the class of the group", "java.lang.ThreadGroup", vm.topLevelThreadGroups().get(0).referenceType().name());
         Vm.same("threads of the group", 2, vm.topLevelThreadGroups().get(0).threads().size());
         var thread = Vm.sleeper(vm, "waits.lua");
         thread.suspend();
@@ -55,6 +67,8 @@ final class Stacks {
         checkMethods(vm, "spins", List.of("main", "add", "spin"));
         checkMethods(vm, "deep.steps", List.of("main", "rest", "down"));
         Vm.same("the file of deep.steps", "steps.lua", only(vm, "deep.steps").sourceName());
+        Vm.same("obsolete methods", 0L, only(vm, "waits").methods().stream().filter(Method::isObsolete).count());
+        checkNoSourceNames(vm);
         vm.dispose();
         System.out.println("ok");
     }
