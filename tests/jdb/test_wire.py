@@ -122,7 +122,29 @@ class Malformed(unittest.TestCase):
         self.errors(INVALID_THREAD, *((11, command, ids(absent)) for command in (1, 2, 4)))
         self.errors(THREAD_NOT_SUSPENDED, (11, 7, ids(absent)), (11, 6, ids(absent) + b"\0" * 8))
         self.errors(INVALID_CLASS, *((2, command, ids(CLASSES + absent)) for command in (1, 7, 13, 15)))
-        self.errors(INVALID_METHODID, (6, 1, ids(CLASSES, METHODS + absent)), (6, 1, ids(CLASSES, 1)))
+        self.errors(INVALID_METHODID, (6, 1, ids(CLASSES, METHODS + absent)), (6, 1, ids(CLASSES, 1)),
+                    (6, 4, ids(CLASSES, METHODS + absent)), (6, 4, ids(CLASSES, 1)))
+
+    def test_group_and_its_class(self):
+        with self.attached() as wire:
+            self.assertEqual(wire.ask(9, 1, ids(GROUP)).data, b"\x01" + ids(GROUP_CLASS))
+            self.assertEqual(wire.ask(9, 9, ids(GROUP)).data, b"\0")
+            self.assertIn(b"Ljava/lang/ThreadGroup;", wire.ask(2, 13, ids(GROUP_CLASS)).data)
+
+    def test_no_method_is_obsolete(self):
+        with self.attached() as wire:
+            thread = wire.threads(2)["spins.lua"]
+            wire.suspend(thread)
+            frame = wire.frames(thread)[-1]
+            self.assertEqual(wire.ask(6, 4, ids(frame.class_, frame.method)).data, b"\0")
+
+    def test_objects_that_are_not_needed(self):
+        thread = struct.pack(">QI", 1, 1)
+        self.errors(ILLEGAL_ARGUMENT, (1, 14, b""), (1, 14, struct.pack(">i", 2) + thread), (1, 14, struct.pack(">i", -1)),
+                    (1, 14, struct.pack(">i", 1) + thread[:11]), (1, 14, struct.pack(">i", 0) + b"\0"))
+        with self.attached() as wire:
+            self.assertEqual(wire.error_of(1, 14, struct.pack(">i", 2) + thread + struct.pack(">QI", GROUP, 7)), 0)
+            self.assertEqual(set(wire.threads(2)), {"waits.lua", "spins.lua"})
 
     def test_frames_that_are_not_there(self):
         """The stack of waits.lua has seven frames once it sleeps."""
@@ -195,6 +217,20 @@ class ManyStops(unittest.TestCase):
                     self.assertEqual({wire.error_of(13, 1, ids(number)) for number in before}, {INVALID_OBJECT} if stop else set())
                     wire.resume(thread)
                     before = tables
+
+
+    def test_values_are_freed_when_they_are_not_needed(self):
+        with places.scripts("tables") as host, attach(host.port) as wire:
+            thread = wire.threads(1)["tables.lua"]
+            while wire.status(thread)[0] != 2:
+                time.sleep(0.01)
+            tables, entries = self.tables(wire, thread)
+            gone, kept = tables[:5], tables[5:]
+            data = struct.pack(">i", len(gone)) + b"".join(struct.pack(">QI", number, 1) for number in gone)
+            self.assertEqual(wire.error_of(1, 14, data), 0)
+            self.assertEqual({wire.error_of(13, 1, ids(number)) for number in gone}, {INVALID_OBJECT})
+            self.assertEqual({wire.error_of(13, 1, ids(number)) for number in kept}, {0})
+            self.assertEqual(wire.entries(kept[-1]), entries)
 
 
 def attach(port):

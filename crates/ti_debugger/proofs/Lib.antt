@@ -14,4 +14,5 @@ pub mod TellLaws
 pub mod TakeLaws
 pub mod VariableLaws
 pub mod KeptLaws
+pub mod EffectLaws
 pub mod NameLaws

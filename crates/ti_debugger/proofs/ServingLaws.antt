@@ -15,7 +15,9 @@ use Rattle.ti_debugger.specs.declared.desk.Desk.{Desk}
 use Rattle.ti_debugger.specs.declared.due.Due.{Due}
 use Rattle.ti_debugger.specs.declared.due.Due.TheVariants.{Answer}
 use Rattle.ti_debugger.specs.declared.seat.Todo.{Todo}
+use Rattle.ti_debugger.specs.Effects.{IsEffectOf, Takes}
 use Rattle.ti_debugger.specs.Replies.{IsBodyOf}
+use Rattle.ti_debugger.specs.declared.effects.Effect.{Effect}
 use Rattle.ti_debugger.specs.Runs.{RunsTo, is_agents}
 use Rattle.ti_debugger.proofs.RunLaws.{asked_of}
 use Rattle.ti_debugger.specs.Serving.{Comes, Given, Gives, Going, Path, Rests, Serves, Serving, Undertakes, due_by}
@@ -112,14 +114,14 @@ serving_runs now t t' u u' d f s =
     (s.1.0, p.0, p.1)
 
 -- a request that was asked is replied to
-pub given_reply : (now : ℕ) (request : Request) (t m : Talk) (body : List ℕ) (d e : Desk) (r : Result (Unit {0}) SessionError) (x : Unit {0}) → r ≡ Ok x → m ≡ replied t (Ok body)
-    → (is_asked t.phase ≡ false → r ≡ Err NotAsked) → IsBodyOf request (data_of t.first t.bytes.input) d e body → e ≡ record d { agent = e.agent; asked = e.asked }
-    → Given {E = SessionError} now (Answer request) t d m e (Ok true)
-given_reply now request t m body d e r x was ok asked is rest = (Replied (Ok body), (asked_of r (is_asked t.phase) x was asked, ok), (request, refl, is, rest))
+pub given_reply : (now : ℕ) (request : Request) (t m : Talk) (body : List ℕ) (d e f : Desk) (x : Effect) (r : Result (Unit {0}) SessionError) (y : Unit {0}) → r ≡ Ok y → m ≡ replied t (Ok body)
+    → (is_asked t.phase ≡ false → r ≡ Err NotAsked) → IsBodyOf request (data_of t.first t.bytes.input) d e body → IsEffectOf request (data_of t.first t.bytes.input) e x → Takes x e f
+    → e ≡ record d { agent = e.agent; asked = e.asked } → Given {E = SessionError} now (Answer request) t d m f (Ok true)
+given_reply now request t m body d e f x r y was ok asked is does takes rest = (Replied (Ok body), (asked_of r (is_asked t.phase) y was asked, ok), (request, e, refl, (is, x, does, takes), rest))
 
 pub given_error : (now : ℕ) (request : Request) (t m : Talk) (error : ℕ) (d e : Desk) (r : Result (Unit {0}) SessionError) (x : Unit {0}) → r ≡ Ok x → m ≡ replied t (Err error)
     → (is_asked t.phase ≡ false → r ≡ Err NotAsked) → e ≡ record d { agent = e.agent; asked = e.asked } → Given {E = SessionError} now (Answer request) t d m e (Ok true)
-given_error now request t m error d e r x was ok asked rest = (Replied (Err error), (asked_of r (is_asked t.phase) x was asked, ok), (request, refl, tt, rest))
+given_error now request t m error d e r x was ok asked rest = (Replied (Err error), (asked_of r (is_asked t.phase) x was asked, ok), (request, e, refl, refl, rest))
 
 -- nothing is due any more
 pub ready_none : (now : ℕ) (t m : Talk) (u v : Option Due) (d e : Desk) (b : Bool) → b ≡ true → Comes {E = SessionError} now t u d m v e (Ok b) → v ≡ None

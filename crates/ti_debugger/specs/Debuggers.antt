@@ -5,7 +5,7 @@ use Rattle.ti_service.specs.Memberships.{AgentValue}
 use Rattle.ti_debugger.specs.declared.about.About.{About}
 use Rattle.ti_debugger.specs.declared.asked.Asked.{Asked}
 use Rattle.ti_debugger.specs.declared.due.Due.{Due}
-use Rattle.ti_debugger.specs.declared.objects.Batch.{Batch}
+use Rattle.ti_debugger.specs.declared.objects.Kept.{Kept}
 use Rattle.ti_debugger.specs.Kept.{Names}
 use Rattle.ti_debugger.specs.declared.watched.Watched.{Watched}
 
@@ -23,7 +23,7 @@ pub record DebuggerValue : Type 0 where
   pub starts : Bool
   pub tells : Bool
   pub asked : Asked
-  pub objects : List Batch
+  pub objects : List Kept
   pub numbers : ℕ
 
 -- Threads are suspended, asked and resumed. No number names another text or table than before.

@@ -22,6 +22,7 @@ pub mod Taking
 pub mod VariableReplies
 pub mod Gone
 pub mod Pops
+pub mod Effects
 pub mod Replies
 pub mod Stopping
 pub mod Placing

@@ -97,6 +97,7 @@ IsBodyOf (request.VariableTableWithGeneric class method) bytes old new body = Te
 IsBodyOf (request.FrameValues id frame slots) bytes old new body = (thread : ℕ) × (number_from first_thread id ≡ Some thread) × TellsFrame thread frame (bytes_at slots bytes) old.asked body
 IsBodyOf request.CapabilitiesNew bytes old new body = body ≡ capabilities_text (can_pop old.agent)
 IsBodyOf (request.PopFrames id frame) bytes old new body = (thread : ℕ) × (number_from first_thread id ≡ Some thread) × PopsFrames old new thread frame × (body ≡ [])
+IsBodyOf (request.DisposeObjects range) bytes old new body = body ≡ []
 IsBodyOf (request.TextValue id) bytes old new body = TellsText old.objects.list.items id body
 IsBodyOf (request.TableLength id) bytes old new body = TellsLength old.objects.list.items id body
 IsBodyOf (request.TableEntries id start len) bytes old new body = TellsEntries old.objects.list.items id start len body

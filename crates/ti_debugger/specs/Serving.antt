@@ -10,11 +10,13 @@ use Rattle.ti_debugger.specs.declared.asked.Asked.TheVariants.{Nothing}
 use Rattle.ti_debugger.specs.declared.desk.Desk.{Desk}
 use Rattle.ti_debugger.specs.declared.due.Due.{Due}
 use Rattle.ti_debugger.specs.declared.due.Due.TheVariants as due
+use Rattle.ti_debugger.specs.declared.effects.Effect.{Effect}
 use Rattle.ti_debugger.specs.declared.seat.Seat.{Seat}
 use Rattle.ti_debugger.specs.declared.stopping.Spot.{Spot}
 use Rattle.ti_debugger.specs.Crowds.{alive_in, any_awaited}
 use Rattle.ti_debugger.specs.Debuggers.{DebuggerValue}
 use Rattle.ti_debugger.specs.Desks.{debugger_of}
+use Rattle.ti_debugger.specs.Effects.{IsEffectOf, Takes}
 use Rattle.ti_debugger.specs.Kept.{of_thread, without}
 use Rattle.ti_debugger.specs.Placing.{IsPlacedAs, StandsAs}
 use Rattle.ti_debugger.specs.Replies.{IsBodyOf}
@@ -36,10 +38,11 @@ due_by action.Write d = d
 due_by action.Close d = d
 due_by action.Wait d = d
 
--- A body says what the service and the runtime answered.
-abbrev pub RepliesTo : Request → List ℕ → Result (List ℕ) ℕ → Desk → Desk → Type 0
-RepliesTo request bytes (Ok body) old new = IsBodyOf request bytes old new body
-RepliesTo request bytes (Err error) old new = Unit {0}
+-- A body says what the service and the runtime answered. Once it is written, what it tells of texts and tables is counted, and those
+-- that the debugger does not need any more are freed. An error leaves them as they are.
+abbrev pub RepliesTo : Request → List ℕ → Result (List ℕ) ℕ → Desk → Desk → Desk → Type 0
+RepliesTo request bytes (Ok body) old answered new = IsBodyOf request bytes old answered body × (e : Effect) × IsEffectOf request bytes answered e × Takes e answered new
+RepliesTo request bytes (Err error) old answered new = new ≡ answered
 
 -- the service is asked of its stops, and nothing else changes
 abbrev pub CallsStops : Desk → Desk → Type 0
@@ -87,7 +90,8 @@ Posts thread p old new = Suspends thread p old new × (new.agent.home ≡ old.ag
 -- what a session is given of what is due to it, as the agent has it, and nothing else changes
 abbrev pub Gives : ℕ → Talk → Option Due → Desk → Call → Desk → Type 0
 Gives now t d old (Replied a) new =
-    (request : Request) × (d ≡ Some (due.Answer request)) × RepliesTo request (data_of t.first t.bytes.input) a old new × (new ≡ record old { agent = new.agent; asked = new.asked })
+    (request : Request) × (answered : Desk) × (d ≡ Some (due.Answer request)) × RepliesTo request (data_of t.first t.bytes.input) a old answered new
+    × (answered ≡ record old { agent = answered.agent; asked = answered.asked })
 Gives now t d old (Listed threads) new = (d ≡ Some due.List) × (threads ≡ alive_in old.crowd.list.items) × (new ≡ old)
 Gives now t d old (PostedAs posted) new = (thread : ℕ) × (d ≡ Some (due.Post thread)) × Posts thread (Some posted) old new
 Gives now t d old Settled new = (d ≡ Some due.Settle) × (any_awaited new.crowd.list.items now ≡ false) × Settles old new

@@ -10,7 +10,7 @@ use Rattle.ti_jdwp.specs.Variables.{entry_list, object_signature, value_list}
 use Rattle.ti_jdwp.specs.declared.error.JdwpError.{JdwpError}
 use Rattle.ti_jdwp.specs.declared.variables.Value.{Value}
 use Rattle.ti_debugger.specs.Debuggers.{DebuggerValue}
-use Rattle.ti_debugger.specs.Kept.{Adds, IsKept}
+use Rattle.ti_debugger.specs.Kept.{IsKept, numbered}
 use Rattle.ti_debugger.specs.Stacks.{IsPart}
 use Rattle.ti_debugger.specs.declared.stacks.Part.{Part}
 use Rattle.ti_debugger.specs.Questions.{named_in, question_in, read_answer}
@@ -18,7 +18,7 @@ use Rattle.ti_debugger.specs.declared.asked.Asked.{Asked}
 use Rattle.ti_debugger.specs.declared.asked.Asked.TheVariants as asked
 use Rattle.ti_debugger.specs.declared.asked.Named.{Named}
 use Rattle.ti_debugger.specs.declared.asked.Row.{Row}
-use Rattle.ti_debugger.specs.declared.objects.Batch.{Batch}
+use Rattle.ti_debugger.specs.declared.objects.Kept.{Kept}
 use Rattle.ti_debugger.specs.declared.objects.Object.{Object}
 use Rattle.ti_debugger.specs.declared.objects.Object.TheVariants as object
 use Rattle.ti_debugger.specs.declared.question.Question.{Question}
@@ -76,19 +76,19 @@ abbrev pub TellsFrame : ℕ → ℕ → List ℕ → Asked → List ℕ → Type
 TellsFrame thread frame bytes a body = (depth : ℕ) × (told : List Row) × (frame_id thread depth ≡ frame) × AreValues a thread depth told × TellsValues told bytes body
 
 -- the text with this id, and the table
-abbrev pub TellsText : List Batch → ℕ → List ℕ → Type 0
+abbrev pub TellsText : List Kept → ℕ → List ℕ → Type 0
 TellsText objects id body = (n : ℕ) × (content : List ℕ) × (number_from first_text id ≡ Some n) × IsKept objects n (object.Text content) × (body ≡ text content)
 
-abbrev pub IsTable : List Batch → ℕ → ℕ → ℕ → Type 0
+abbrev pub IsTable : List Kept → ℕ → ℕ → ℕ → Type 0
 IsTable objects id n count = (number_from first_table id ≡ Some n) × IsKept objects n (object.Table count)
 
 -- a text that was told is of the class of all texts, and a table of that of all tables
-abbrev pub TellsClass : List Batch → ℕ → List ℕ → Type 0
+abbrev pub TellsClass : List Kept → ℕ → List ℕ → Type 0
 TellsClass objects id body =
     ((n : ℕ) × (content : List ℕ) × (number_from first_text id ≡ Some n) × IsKept objects n (object.Text content) × (body ≡ 1 ∷ long text_class))
     ⊎ ((n count : ℕ) × IsTable objects id n count × (body ≡ 3 ∷ long table_class))
 
-abbrev pub TellsLength : List Batch → ℕ → List ℕ → Type 0
+abbrev pub TellsLength : List Kept → ℕ → List ℕ → Type 0
 TellsLength objects id body = (n count : ℕ) × IsTable objects id n count × (body ≡ signed (cast_signed w32 count))
 
 -- so many numbers
@@ -102,7 +102,7 @@ entries_of table None = []
 entries_of table (Some p) = numbers_from (table + 1 + cast_unsigned w32 p.start) (cast_unsigned w32 p.count)
 
 -- the part of a table that is asked for
-abbrev pub TellsEntries : List Batch → ℕ → ℤ → ℤ → List ℕ → Type 0
+abbrev pub TellsEntries : List Kept → ℕ → ℤ → ℤ → List ℕ → Type 0
 TellsEntries objects id start len body =
     (n count : ℕ) × (wanted : ℤ) × (p : Option Part) × IsTable objects id n count × (len ≢ negsuc 0 → wanted ≡ len) × IsPart (cast_signed w32 count) start wanted (Ok p) × (body ≡ entry_list (entries_of n p))
 
@@ -126,7 +126,7 @@ RefusesThese variables names old error.OutOfMemory = Unit {0}
 -- an answer for the values of a frame: what is new is kept for its thread, with the next numbers
 abbrev pub TellsValuesOf : List Told → List ℕ → DebuggerValue → DebuggerValue → Type 0
 TellsValuesOf values texts old new = (thread depth : ℕ) × (rows : List Row) × (more : List Object) × (old.asked ≡ asked.Open (question.Values thread depth))
-    × (read_answer old.numbers values texts ≡ Some (record { rows = rows; objects = more; left = 0; rest = [] })) × AreValues new.asked thread depth rows × Adds thread more (length texts) old.numbers old.objects new.objects
+    × (read_answer old.numbers values texts ≡ Some (record { rows = rows; objects = more; left = 0; rest = [] })) × AreValues new.asked thread depth rows × (new.objects ≡ old.objects ++ numbered thread old.numbers more)
     × (new.numbers ≡ old.numbers + length more)
 
 abbrev pub RefusesValues : List Told → List ℕ → DebuggerValue → TellError → Type 0

@@ -58,6 +58,7 @@ impl Desk {
             } => self.values(thread_in(thread)?, frame, slots.of(bytes)),
             Request::CapabilitiesNew => self.capabilities(),
             Request::PopFrames { thread, frame } => self.pop_frames(thread_in(thread)?, frame),
+            Request::DisposeObjects(_) => Ok(Vec::new(self.alloc)),
             Request::ReferenceType(id) => self.class_of_object(id),
             Request::IsCollected(id) => self.is_collected(id),
             Request::TextValue(id) => self.text_value(id),

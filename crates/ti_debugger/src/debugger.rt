@@ -128,8 +128,9 @@ impl Debugger {
     }
 
     /// What the caller does next with the connection. Requests are answered here, and while a question is open none is: nothing changes.
-    /// What was told of the values of a thread is freed when the debugger resumes it, and before it is suspended anew. Then its numbers
-    /// name nothing: no number names another text or table than before.
+    /// What was told of the values of a thread is freed when the debugger resumes it, and before it is suspended anew, and a text or a
+    /// table when the debugger has disposed of its id (1/14) as often as it was told it: a table's entries are told anew by each 13/2.
+    /// Then its number names nothing: no number names another text or table than before.
     ///
     /// - 112 WRONG_PHASE: no debugger is connected. Nothing changes.
     /// - 110 OUT_OF_MEMORY: there is no memory for a reply, an event, or what a request asks to be kept. What was done before stays

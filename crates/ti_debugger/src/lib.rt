@@ -16,6 +16,7 @@ mod debugger;
 mod debugger_error;
 mod desk;
 mod due;
+mod effects;
 mod halted;
 mod halting;
 mod hold;

@@ -78,7 +78,7 @@ impl Desk {
     }
 
     /// The number of a table, and how many entries it has. 20 INVALID_OBJECT if it is not kept.
-    fn table_in(&self, id: u64) -> Result<(u32, u32), JdwpError>
+    pub(crate) fn table_in(&self, id: u64) -> Result<(u32, u32), JdwpError>
         ensures { IfOk result (λ t. IsTable self.now.objects.list.items id t.0 t.1) }
     {
         let Some(number) = table_of(id) else {

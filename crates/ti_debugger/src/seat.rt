@@ -206,9 +206,10 @@ impl Seat {
         ensures due { self.new.due ≡ self.old.due }
         ensures desk { Works desk.old desk.new }
     {
-        match desk.answer(request, self.session.data()) {
-            Ok(body) => {
-                self.session.reply(body.as_slice())?;
+        match desk.reply_to(request, self.session.data()) {
+            Ok(reply) => {
+                self.session.reply(reply.body.as_slice())?;
+                desk.take(&reply.effect);
                 Ok(true)
             }
             Err(Refusal::Error(error)) => {

@@ -63,7 +63,7 @@ impl Debugger {
     }
 
     /// Answers a question for the values of a frame. Of two values of one slot the first counts. Texts and tables are kept until
-    /// the thread is resumed for the debugger, or the connection ends.
+    /// the thread is resumed for the debugger, or the debugger disposes of them, or the connection ends.
     ///
     /// - 112 WRONG_PHASE: no such question is open. Nothing changes.
     /// - 103 ILLEGAL_ARGUMENT: the lengths of texts and entries do not add up, an entry does not stand behind its table, or a table has
@@ -82,7 +82,7 @@ impl Debugger {
         };
         let given = self.desk.objects.numbers;
         let taken = read_answer(self.desk.alloc, given, values, texts)?;
-        if !self.desk.objects.add(thread, taken.objects, texts.len()) {
+        if !self.desk.objects.add(thread, taken.objects) {
             return Err(TellError::OutOfMemory);
         }
         self.desk.asked = Asked::Values {

@@ -44,7 +44,7 @@ fn value_at(rows: &[Row], slot: u32) -> Option<Value>
 }
 
 /// The values at these slots, in their order. 35 INVALID_SLOT if there is none at one of them.
-fn picked(alloc: Global, rows: &[Row], slots: &[u32]) -> Result<Vec<Value>, JdwpError>
+pub(crate) fn picked(alloc: Global, rows: &[Row], slots: &[u32]) -> Result<Vec<Value>, JdwpError>
     ensures ok { IfOk result (λ v. picked rows.now slots.now ≡ Some v.items) }
     ensures err { IfErr result (λ e. (e ≡ OutOfMemory) ⊎ ((e ≡ InvalidSlot) × (picked rows.now slots.now ≡ None))) }
 {

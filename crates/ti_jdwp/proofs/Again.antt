@@ -53,11 +53,11 @@ again_signature bytes t short e =
     then_ok (text_len bytes) (4 + length t) (λ len. of_len len bytes (request.ClassesBySignature (record { start = 4; end = length bytes }))) read
     ∙ of_len_again (4 + length t) bytes (request.ClassesBySignature (record { start = 4; end = length bytes })) len
 
-again_objects : (bytes rest : List ℕ) (n : ℕ) → n < 2 ^ 32 → bytes ≡ int n ++ rest → length rest ≡ 12 * n → read_as of_objects bytes ≡ Ok request.DisposeObjects
+again_objects : (bytes rest : List ℕ) (n : ℕ) → n < 2 ^ 32 → bytes ≡ int n ++ rest → length rest ≡ 12 * n → read_as of_objects bytes ≡ Ok (request.DisposeObjects (record { start = 4; end = length bytes }))
 again_objects bytes rest n fits e many =
     let len : length bytes ≡ 4 + length rest = ap (λ (b : List ℕ). length b) e ∙ length-append (int n) rest ∙ ap (λ (m : ℕ). m + length rest) (int_len n) in
     let is : int_at 0 bytes ≡ n = ap (λ (b : List ℕ). int_at 0 b) e ∙ int_again n rest fits in
-    taken _ (Ok request.DisposeObjects) (Err error.IllegalArgument) (and_from _ _ (le-leb 4 (length bytes) (omega arith)) (eq-eqb (length bytes) (4 + 12 * int_at 0 bytes) (omega arith)))
+    taken _ (Ok (request.DisposeObjects (record { start = 4; end = length bytes }))) (Err error.IllegalArgument) (and_from _ _ (le-leb 4 (length bytes) (omega arith)) (eq-eqb (length bytes) (4 + 12 * int_at 0 bytes) (omega arith)))
 
 again_values : (bytes rest : List ℕ) (thread frame n : ℕ) → thread < 2 ^ 64 → frame < 2 ^ 64 → n ≤ 4096 → bytes ≡ long thread ++ long frame ++ int n ++ rest → length rest ≡ 5 * n
     → read_as of_slots bytes ≡ Ok (request.FrameValues thread frame (record { start = 20; end = length bytes }))

@@ -74,7 +74,7 @@ found_signature bytes r fits e =
 
 found_objects : (bytes : List ℕ) (r : Request) → IsBytes bytes → read_as of_objects bytes ≡ Ok r → IsObjects bytes r
 found_objects bytes r fits e =
-    let g = guard_ok (leb 4 (length bytes) && eqb (length bytes) (4 + 12 * int_at 0 bytes)) _ request.DisposeObjects r e in
+    let g = guard_ok (leb 4 (length bytes) && eqb (length bytes) (4 + 12 * int_at 0 bytes)) _ (request.DisposeObjects (record { start = 4; end = length bytes })) r e in
     let tests = and_parts _ _ g.0 in
     let many : 4 ≤ length bytes = leb-true _ _ tests.0 in
     let len : length bytes ≡ 4 + 12 * int_at 0 bytes = eqb-true _ _ tests.1 in

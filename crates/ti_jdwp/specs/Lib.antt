@@ -17,6 +17,7 @@ pub mod Sent
 pub mod Bodies
 pub mod Variables
 pub mod Slots
+pub mod Disposed
 pub mod Composites
 pub mod Patterns
 pub mod Spelled

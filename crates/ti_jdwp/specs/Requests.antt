@@ -47,7 +47,7 @@ read_as (of_id r) bytes = id_in bytes >>= λ id. Ok (r id)
 read_as (of_two_ids r) bytes = two_ids_in bytes >>= λ ids. Ok (r ids.0 ids.1)
 read_as (of_part r) bytes = part_in bytes >>= λ part. Ok (r part.0 part.1 part.2)
 read_as of_signature bytes = text_len bytes >>= λ len. of_len len bytes (request.ClassesBySignature (record { start = 4; end = length bytes }))
-read_as of_objects bytes = if nat_le 4 (length bytes) && (length bytes == 4 + 12 * int_at 0 bytes) then Ok request.DisposeObjects else Err error.IllegalArgument
+read_as of_objects bytes = if nat_le 4 (length bytes) && (length bytes == 4 + 12 * int_at 0 bytes) then Ok (request.DisposeObjects (record { start = 4; end = length bytes })) else Err error.IllegalArgument
 read_as of_event bytes = event_in bytes
 read_as of_clear bytes = of_len 5 bytes (request.ClearEvent (slice_index bytes 0) (cast_signed w32 (int_at 1 bytes)))
 read_as of_slots bytes = slots_in bytes

@@ -21,7 +21,7 @@ IsSignature bytes r = (signature : List ℕ) × (length signature < 2 ^ 31) × (
 
 -- twelve bytes for each object
 abbrev pub IsObjects : List ℕ → Request → Type 0
-IsObjects bytes r = (n : ℕ) × (rest : List ℕ) × (n < 2 ^ 32) × (bytes ≡ int n ++ rest) × (length rest ≡ 12 * n) × (r ≡ request.DisposeObjects)
+IsObjects bytes r = (n : ℕ) × (rest : List ℕ) × (n < 2 ^ 32) × (bytes ≡ int n ++ rest) × (length rest ≡ 12 * n) × (r ≡ request.DisposeObjects (record { start = 4; end = length bytes }))
 
 -- at most 64 modifiers, which are all of the rest
 abbrev pub IsEvent : List ℕ → Request → Type 0

@@ -13,6 +13,7 @@ mod actions;
 mod asking;
 mod bodies;
 mod constants;
+mod disposed;
 mod error;
 mod event;
 mod event_laws;
@@ -54,6 +55,7 @@ pub use bodies::{
     empty_list_body, generic_signature_body, groups_body, id_body, id_sizes_body, int_body,
     new_capabilities_body, no_object_body, status_body, text_body, version_body,
 };
+pub use disposed::{DISPOSED_LEN, disposed_at};
 pub use error::JdwpError;
 pub use event_laws::events_are_told_well;
 pub use event_text::{EventRow, Occurrence, composite_body};

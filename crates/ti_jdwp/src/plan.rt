@@ -213,14 +213,14 @@ pub(crate) fn plan_of(request: Request) -> Plan
         | Request::AllClasses
         | Request::AllThreads
         | Request::ClassPaths
-        | Request::CapabilitiesNew => Plan::Ask,
+        | Request::CapabilitiesNew
+        | Request::DisposeObjects(_) => Plan::Ask,
         Request::TopLevelThreadGroups => Plan::Constant(Constant::Groups),
         Request::Dispose => Plan::Dispose,
         Request::IdSizes => Plan::Constant(Constant::IdSizes),
         Request::SuspendAll => Plan::SuspendAll,
         Request::ResumeAll => Plan::ResumeAll,
         Request::Capabilities => Plan::Constant(Constant::Capabilities),
-        Request::DisposeObjects => Plan::Constant(Constant::Empty),
         Request::HoldEvents => Plan::Hold,
         Request::ReleaseEvents => Plan::Release,
         Request::SetEvent {

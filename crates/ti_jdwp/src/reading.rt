@@ -1,13 +1,11 @@
 //! Requests, read from the data of a packet.
 
+use crate::disposed::DISPOSED_LEN;
 use crate::error::JdwpError;
 use crate::fields::{int, long};
 use crate::modifiers::{MAX_MODIFIERS, end_of_modifiers, text_len};
 use crate::request::{EventKind, Policy, Range, Request};
 use crate::slots::SLOT_LEN;
-
-/// Bytes that each object of 1/14 takes: its id, and a count of references.
-const DISPOSED_LEN: usize = 12;
 
 /// Where the slots of 16/1 begin: behind a thread, a frame and a count.
 const SLOTS_AT: usize = 20;
@@ -265,7 +263,10 @@ fn dispose_objects(bytes: &[u8]) -> Result<Request, JdwpError>
     ensures { result ≡ read_as of_objects bytes.now }
 {
     if bytes.len() >= 4 && bytes.len() == 4 + DISPOSED_LEN * int(bytes, 0) as usize {
-        Ok(Request::DisposeObjects)
+        Ok(Request::DisposeObjects(Range {
+            start: 4,
+            end: bytes.len(),
+        }))
     } else {
         Err(JdwpError::IllegalArgument)
     }

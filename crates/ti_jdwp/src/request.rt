@@ -143,8 +143,8 @@ pub enum Request {
     Capabilities,
     /// 1/13.
     ClassPaths,
-    /// 1/14. Which objects is not told.
-    DisposeObjects,
+    /// 1/14, with the objects ([`disposed_at`](crate::disposed_at)).
+    DisposeObjects(Range),
     /// 1/15.
     HoldEvents,
     /// 1/16.

@@ -1,25 +1,28 @@
-use Rattle.std.proofs.Common.{◌≡◌, ◌∙◌, ◌++◌, ◌∷◌, [], List, ap, arith, refl, subst}
-use Rattle.std.proofs.lemmas.Grind.{common_steps}
-use Rattle.ti_debugger.specs.Kept.{IsKept}
-use Rattle.ti_debugger.specs.declared.objects.Batch.{Batch}
-use Rattle.ti_debugger.proofs.KeptLaws.{added, names_added}
+use Rattle.std.proofs.Common.{◌≡◌, ◌∙◌, ◌+◌, ◌++◌, ◌≤◌, [], List, length, ap, arith, refl, subst, sym}
+use Rattle.std.specs.List.{sum_by}
+use Rattle.std.specs.Vec.Iter.{into_iter_items}
+use Rattle.std.proofs.lemmas.List.{append-nil, nil_from_length}
+use Rattle.ti_debugger.specs.declared.objects.Object.{Object}
+use Rattle.ti_debugger.specs.Kept.{bytes_of, numbered, size_of}
+use Rattle.ti_debugger.proofs.KeptLaws.{bytes_added, many_added, names_added}
 use Rattle.ti_debugger.proofs.objects.Objects.add.Goals as goal
+use Rattle.ti_debugger.proofs.objects.Objects.add.Goals.{After-self-1}
 
-batch : goal.After-self-1 → Batch
-batch c = record { thread = c.args.thread; first = c.args.self.now.numbers; objects = c.args.more; bytes = c.args.bytes }
-
-pushed : (c : goal.After-self-1) → c.push_reserved.new.self.items ≡ c.args.self.now.list.items ++ batch c ∷ []
-unfolding batch
-pushed c = c.push_reserved.ensures.items ∙ ap (λ (l : List Batch). l ++ batch c ∷ []) c.reserve.ensures.items
-
-pub returns-clause-added : goal.returns-clause-added
-unfolding batch
-returns-clause-added c = λ is.
-    added (batch c) c.args.self.now.list.items c.push_reserved.new.self.items c.args.more.items refl (λ none. grind (arith, common_steps)) (pushed c)
+pushed : (c : After-self-1) → c.loop-object.self.list.items ≡ c.args.self.now.list.items ++ numbered c.args.thread c.args.self.now.numbers c.args.more.items
+pushed c =
+    let thread = c.args.thread in
+    let list = c.loop-object.self.list.items in
+    let none : into_iter_items c.loop-object.object-iterator ≡ [] = nil_from_length (into_iter_items c.loop-object.object-iterator) (omega (arith, c.in-None.ensures.steps.0, c.loop-object.object-iterator.rest.ok)) in
+    let last : list ++ numbered thread c.loop-object.number (into_iter_items c.loop-object.object-iterator) ≡ list = ap (λ (more : List Object). list ++ numbered thread c.loop-object.number more) none ∙ append-nil list in
+    sym last ∙ c.loop-object.invariant.list
 
 pub returns-clause-same : goal.returns-clause-same
-unfolding batch
-returns-clause-same c = names_added (batch c) c.args.self.now.list.items c.push_reserved.new.self.items c.args.self.now.numbers refl (pushed c)
+returns-clause-same c = names_added c.args.thread c.args.self.now.numbers c.args.self.now.list.items c.loop-object.self.list.items c.args.more.items (pushed c)
 
-pub returns-then-is_err-clause-same : goal.returns-then-is_err-clause-same
-returns-then-is_err-clause-same c = λ n o below is. subst (λ (l : List Batch). IsKept l n o) c.reserve.ensures.items is
+pub returns-clause-bound : goal.returns-clause-bound
+returns-clause-bound c = λ is. many_added c.args.thread c.args.self.now.numbers 65536 c.args.self.now.list.items c.loop-object.self.list.items c.args.more.items (pushed c)
+    (subst (λ (l : List Object). length c.args.self.now.list.items + length l ≤ 65536) c.as_slice.ensures.value (c.if-not-has_room.ensures.count refl))
+
+pub returns-clause-bytes : goal.returns-clause-bytes
+returns-clause-bytes c = λ is. bytes_added c.args.thread c.args.self.now.numbers 16777216 c.args.self.now.list.items c.loop-object.self.list.items c.args.more.items (pushed c)
+    (subst (λ (l : List Object). bytes_of c.args.self.now.list.items + sum_by size_of l ≤ 16777216) c.as_slice.ensures.value (c.if-not-has_room.ensures.bytes refl))
