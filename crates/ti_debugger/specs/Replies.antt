@@ -15,7 +15,7 @@ use Rattle.ti_debugger.specs.declared.about.About.{About}
 use Rattle.ti_debugger.specs.declared.class_answers.Known.{Known}
 use Rattle.ti_debugger.specs.declared.desk.Desk.{Desk}
 use Rattle.ti_debugger.specs.declared.watched.Watched.{Watched}
-use Rattle.ti_debugger.specs.Crowds.{alive_in}
+use Rattle.ti_debugger.specs.Crowds.{IsGone, live_in}
 use Rattle.ti_debugger.specs.Sources.{file_in}
 use Rattle.ti_debugger.specs.LineReplies.{IsNotObsolete, TellsLines}
 use Rattle.ti_debugger.specs.MethodReplies.{TellsMethods}
@@ -34,7 +34,7 @@ abbrev pub name_in : Watched → List ℕ
 name_in w = if length (string_bytes w.name) == 0 then codes "thread " ++ decimal w.thread.0 else string_bytes w.name
 
 abbrev pub NamesThread : List Watched → ℕ → List ℕ → Type 0
-NamesThread list thread body = (one : Watched) × IsWatched list thread one × (body ≡ text (name_in one))
+NamesThread list thread body = ((one : Watched) × IsWatched list thread one × (body ≡ text (name_in one))) ⊎ (IsGone list thread × (body ≡ text (codes "(ended)")))
 
 -- a text that the class with this id has, as it was defined
 abbrev pub TellsOfClass : (List ClassInfo → ClassNo → List ℕ → Type 0) → List ClassInfo → ℕ → (List ℕ → List ℕ) → List ℕ → Type 0
@@ -78,8 +78,8 @@ TellsFound signature before after body = (listed : List (ℕ × List ℕ)) × Li
 abbrev pub IsBodyOf : Request → List ℕ → Desk → Desk → List ℕ → Type 0
 IsBodyOf request.Version bytes old new body = body ≡ version_text old.about
 IsBodyOf request.ClassPaths bytes old new body = body ≡ paths_text old.about
-IsBodyOf request.AllThreads bytes old new body = body ≡ thread_list (alive_in old.crowd.list.items)
-IsBodyOf (request.GroupChildren id) bytes old new body = body ≡ thread_list (alive_in old.crowd.list.items) ++ int 0
+IsBodyOf request.AllThreads bytes old new body = body ≡ thread_list (live_in old.crowd.list.items)
+IsBodyOf (request.GroupChildren id) bytes old new body = body ≡ thread_list (live_in old.crowd.list.items) ++ int 0
 IsBodyOf (request.ThreadName id) bytes old new body = (thread : ℕ) × (number_from first_thread id ≡ Some thread) × NamesThread old.crowd.list.items thread body
 IsBodyOf (request.ThreadStatus id) bytes old new body = (thread : ℕ) × (number_from first_thread id ≡ Some thread) × TellsState old new thread body
 IsBodyOf (request.FrameCount id) bytes old new body = (thread : ℕ) × (number_from first_thread id ≡ Some thread) × TellsDepth old new thread body

@@ -18,6 +18,7 @@ use Rattle.ti_service.specs.Classes.{classes_of}
 use Rattle.ti_debugger.specs.declared.desk.Desk.{Desk}
 use Rattle.ti_debugger.specs.declared.stacks.Part.{Part}
 use Rattle.ti_debugger.specs.declared.watched.Watched.{Watched}
+use Rattle.ti_debugger.specs.Crowds.{IsGone}
 use Rattle.ti_debugger.specs.Stacks.{IsPart, index_of}
 use Rattle.ti_debugger.specs.Status.{is_suspended, is_terminated, status_of}
 
@@ -41,6 +42,7 @@ abbrev pub HasState : Desk → Desk → ℕ → Option ℕ → Type 0
 HasState old new thread bits =
     ((one : Watched) × IsWatched old.crowd.list.items thread one × (one.ended ≡ true) × (bits ≡ None))
     ⊎ ((a : Answer) × Posts old.agent.env new.agent.env (record { 0 = thread }) call.State (Answered a) × (bits ≡ bits_in a))
+    ⊎ (IsGone old.crowd.list.items thread × (bits ≡ None))
 
 abbrev pub TellsState : Desk → Desk → ℕ → List ℕ → Type 0
 TellsState old new thread body = (bits : Option ℕ) × HasState old new thread bits × (body ≡ state_text bits)

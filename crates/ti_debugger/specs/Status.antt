@@ -1,5 +1,13 @@
 -- A thread's status on the wire, by the bits of JVM TI's GetThreadState.
-use Rattle.std.specs.Prelude.{ℕ, ℤ, pos, Bool, not, bit_and, ◌==◌, if◌then◌else◌}
+use Rattle.std.specs.Prelude.{ℕ, ℤ, pos, Bool, true, false, not, bit_and, ◌==◌, if◌then◌else◌}
+use Rattle.ti_debugger.specs.declared.watched.Life.{Life}
+use Rattle.ti_debugger.specs.declared.watched.Life.TheVariants as life
+
+-- the thread has started, and has not ended
+abbrev pub is_alive : Life → Bool
+is_alive life.New = false
+is_alive life.Alive = true
+is_alive life.Ended = false
 
 -- whether one of these bits is set
 abbrev pub has : ℕ → ℕ → Bool

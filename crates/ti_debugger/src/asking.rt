@@ -9,6 +9,9 @@ use ti_jdwp::{
     version_body,
 };
 
+/// The name of a thread that is not watched any more.
+const GONE: &[u8] = b"(ended)";
+
 /// The thread with this id. 10 INVALID_THREAD if it is no thread's.
 fn thread_in(id: u64) -> Result<u32, JdwpError>
     ensures ok { IfOk result (λ t. number_from first_thread id ≡ Some t) }
@@ -115,9 +118,9 @@ impl Desk {
         )?)
     }
 
-    /// The threads that are there (1/4).
+    /// The threads that have started and not ended (1/4).
     fn all_threads(&self) -> Result<Vec<u8>, Refusal>
-        ensures { IfOk result (λ v. v.items ≡ thread_list (alive_in self.now.crowd.list.items)) }
+        ensures { IfOk result (λ v. v.items ≡ thread_list (live_in self.now.crowd.list.items)) }
     {
         let threads = self.crowd.live(self.alloc)?;
         Ok(threads_body(self.alloc, threads.as_slice())?)
@@ -125,17 +128,21 @@ impl Desk {
 
     /// The same, as those of the one thread group, which has no groups (12/3).
     fn group_children(&self) -> Result<Vec<u8>, Refusal>
-        ensures { IfOk result (λ v. v.items ≡ thread_list (alive_in self.now.crowd.list.items) ++ int 0) }
+        ensures { IfOk result (λ v. v.items ≡ thread_list (live_in self.now.crowd.list.items) ++ int 0) }
     {
         let threads = self.crowd.live(self.alloc)?;
         Ok(group_children_body(self.alloc, threads.as_slice())?)
     }
 
-    /// The name of a thread (11/1), also after its end, or `thread N` if it has none. 10 INVALID_THREAD if it is not watched.
+    /// The name of a thread (11/1), also after its end, or `thread N` if it has none. One that is not watched any more is `(ended)`: a
+    /// client may have listed it before. 10 INVALID_THREAD if no thread with a higher number is watched either.
     fn thread_name(&self, thread: u32) -> Result<Vec<u8>, Refusal>
         ensures { IfOk result (λ v. NamesThread self.now.crowd.list.items thread v.items) }
     {
         let Some(place) = self.crowd.place_of(thread) else {
+            if self.crowd.has_later(thread) {
+                return Ok(text_body(self.alloc, GONE)?);
+            }
             return Err(Refusal::Error(JdwpError::InvalidThread));
         };
         let name = name_of(self.alloc, &self.crowd.list[place])?;
@@ -148,5 +155,5 @@ ghost use Rattle.ti_jdwp.specs.Bodies.{thread_list};
 ghost use Rattle.ti_jdwp.specs.Fields.{int};
 ghost use Rattle.ti_jdwp.specs.Ids.{number_from, first_thread};
 ghost use Rattle.ti_jdwp.specs.declared.error.JdwpError.TheVariants.{InvalidThread};
-ghost use Rattle.ti_debugger.specs.Crowds.{alive_in};
+ghost use Rattle.ti_debugger.specs.Crowds.{live_in};
 ghost use Rattle.ti_debugger.specs.Replies.{IsBodyOf, NamesThread, name_in, paths_text, version_text};

@@ -92,6 +92,27 @@ impl Crowd {
         Ok(numbers)
     }
 
+    /// The numbers of the threads that have started and not ended, the lowest first. The error is lack of memory.
+    #[tactic(auto, using(std::proofs::lemmas::List::Elements::filter_more))]
+    pub(crate) fn live(&self, alloc: Global) -> Result<Vec<u32>, AllocError>
+        ensures { IfOk result (λ v. v.items ≡ live_in self.now.list.items) }
+    {
+        let mut numbers = Vec::new(alloc);
+        for one in &self.list {
+            if one.life.is_alive() {
+                numbers.push(one.thread.0)?;
+            }
+        }
+        Ok(numbers)
+    }
+
+    /// Whether a thread with a higher number is watched.
+    pub(crate) fn has_later(&self, thread: u32) -> bool
+        ensures { result ≡ any_later thread self.now.list.items }
+    {
+        self.list.iter().any(|one: &Watched| one.thread.0 > thread)
+    }
+
     /// Watches one more thread, behind all others. If there is no room, those that have ended and were let go of are forgotten. False if
     /// there is no room even so, or no memory: then it is not watched.
     pub(crate) fn add(&mut self, one: Watched) -> bool
@@ -116,4 +137,4 @@ impl Crowd {
 }
 
 ghost use Rattle.std.specs.Prelude.{◌≡◌, ◌<◌, ◌≤◌, [], Some, length, IfOk, IfSome, IfNone};
-ghost use Rattle.ti_debugger.specs.Crowds.{number_at, alive_in, first, watched_in};
+ghost use Rattle.ti_debugger.specs.Crowds.{number_at, alive_in, any_later, first, live_in, watched_in};

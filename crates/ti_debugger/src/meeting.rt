@@ -1,10 +1,12 @@
 //! How threads are met and let go of, and what happens to them.
 
 use crate::desk::Desk;
-use crate::watched::Watched;
+use crate::status::life_of;
+use crate::watched::{Life, Watched};
 use std::alloc::Global;
 use ti_service::{Agent, Event, EventKind, LifeEvent, LifeKind, ServiceTries, ThreadInfo};
-use ti_types::{ThreadNo, TiError};
+use ti_slot::Asked;
+use ti_types::{Answer, Call, ThreadNo, TiError};
 
 /// How often threads are met if nothing is new, in nanoseconds.
 const LOOK: u64 = 100_000_000;
@@ -20,15 +22,35 @@ pub(crate) fn enable_events(agent: &mut Agent) -> Result<(), TiError> {
     agent.set_event_notification_mode_now(EventKind::ThreadDetached, true)
 }
 
+/// How far a thread's life is. A thread that does not say so counts as a new one.
+///
+/// The error is 110 OUT_OF_MEMORY, or 215 `Busy` if its cell is in use.
+fn life_at(alloc: Global, agent: &mut Agent, thread: ThreadNo) -> Result<Life, TiError> {
+    match agent.post_now(alloc, thread, Call::State) {
+        Ok(Asked::Answered(Answer::State(bits))) => Ok(life_of(bits)),
+        Ok(Asked::Answered(Answer::Refused(error @ TiError::OutOfMemory))) => Err(error),
+        Ok(Asked::Answered(_)) => Ok(Life::New),
+        Ok(Asked::Waiting(ticket)) => {
+            let _it_goes_with_the_agent = agent.cancel_now(alloc, ticket);
+            Ok(Life::New)
+        }
+        Err(error @ (TiError::OutOfMemory | TiError::Busy)) => Err(error),
+        Err(_) => Ok(Life::Ended),
+    }
+}
+
 /// A thread that was just met, with its name. One that was given back meanwhile has no name.
 ///
-/// The error is 110 OUT_OF_MEMORY, or 215 `Busy` if the roster is in use.
+/// The error is 110 OUT_OF_MEMORY, or 215 `Busy` if the roster or its cell is in use.
 fn watched_at(alloc: Global, agent: &mut Agent, thread: ThreadNo) -> Result<Watched, TiError> {
     match agent.get_thread_info_now(alloc, thread) {
-        Ok(ThreadInfo { name, .. }) => Ok(Watched::new(thread, name)),
+        Ok(ThreadInfo { name, .. }) => {
+            let life = life_at(alloc, agent, thread)?;
+            Ok(Watched::new(thread, name, life))
+        }
         Err(error @ (TiError::OutOfMemory | TiError::Busy)) => Err(error),
         Err(_) => {
-            let mut watched = Watched::new(thread, String::new(alloc));
+            let mut watched = Watched::new(thread, String::new(alloc), Life::Ended);
             watched.ended = true;
             Ok(watched)
         }
@@ -53,8 +75,20 @@ fn let_go_at(alloc: Global, agent: &mut Agent, one: &mut Watched) -> bool {
     if gone || (agent.out_at(one.thread) == 0 && is_given_back(alloc, agent, one)) {
         one.gone = true;
         one.ended = true;
+        one.life = Life::Ended;
     }
     true
+}
+
+/// Looks again how far a thread's life is. False if its cell is in use, or there is no memory.
+fn look_again(alloc: Global, agent: &mut Agent, one: &mut Watched) -> bool {
+    match life_at(alloc, agent, one.thread) {
+        Ok(life) => {
+            one.life = life;
+            true
+        }
+        Err(_) => false,
+    }
 }
 
 /// Lets go of those that have ended, or looks at all of them. Whether all have to be looked at again, since the roster is in use.
@@ -63,6 +97,9 @@ fn let_go_of(alloc: Global, agent: &mut Agent, list: &mut [Watched], all: bool) 
     for one in list.iter_mut() {
         if !one.gone && (one.ended || all) && !let_go_at(alloc, agent, one) {
             again = again || all;
+        }
+        if all && !one.ended && !look_again(alloc, agent, one) {
+            again = true;
         }
     }
     again
@@ -152,18 +189,25 @@ impl Desk {
         let Event::Life(life) = next.event else {
             return None;
         };
-        if life.kind == LifeKind::ThreadDetached {
-            self.note_end(life.thread);
-        }
+        self.note_life(life);
         Some(life)
     }
 
-    /// Notes that a thread was given back.
-    fn note_end(&mut self, thread: ThreadNo)
+    /// Notes that a thread has started or ended, or was given back.
+    fn note_life(&mut self, life: LifeEvent)
         ensures { Watches self.old self.new }
     {
-        if let Some(place) = self.crowd.place_of(thread.0) {
-            self.crowd.list[place].ended = true;
+        if let Some(place) = self.crowd.place_of(life.thread.0) {
+            let one = &mut self.crowd.list[place];
+            match life.kind {
+                LifeKind::ThreadStart => one.life = one.life.once_started(),
+                LifeKind::ThreadEnd => one.life = Life::Ended,
+                LifeKind::ThreadDetached => {
+                    one.life = Life::Ended;
+                    one.ended = true;
+                }
+                LifeKind::ThreadAttached => (),
+            }
         }
     }
 }

@@ -134,6 +134,9 @@ impl Desk {
         ensures rest { self.new ≡ record self.old { agent = self.new.agent } }
     {
         let Some(place) = self.crowd.place_of(thread) else {
+            if self.crowd.has_later(thread) {
+                return Ok(None);
+            }
             return Err(Refusal::Error(JdwpError::InvalidThread));
         };
         if self.crowd.list[place].ended {

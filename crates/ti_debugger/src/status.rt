@@ -1,7 +1,12 @@
 //! A thread's state as the protocol has it.
 
+use crate::watched::Life;
+
 /// The bits of a thread that has ended, in JVM TI's GetThreadState.
 const TERMINATED: u32 = 0x2;
+
+/// The bit of one that has started, and has not ended.
+const ALIVE: u32 = 0x1;
 
 /// The bits of one that is suspended, sleeps, is blocked at a monitor, or waits.
 const SUSPENDED: u32 = 0x10_0000;
@@ -27,6 +32,17 @@ pub(crate) fn status_of(bits: u32) -> i32
         4
     } else {
         1
+    }
+}
+
+/// How far the life of a thread with these bits is.
+pub(crate) fn life_of(bits: u32) -> Life {
+    if bits & TERMINATED != 0 {
+        Life::Ended
+    } else if bits & ALIVE != 0 {
+        Life::Alive
+    } else {
+        Life::New
     }
 }
 
