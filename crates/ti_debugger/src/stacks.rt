@@ -7,7 +7,7 @@ use std::alloc::Global;
 use ti_jdwp::{FrameRow, JdwpError, frames_body, int_body, status_body};
 use ti_service::ClassCalls;
 use ti_slot::Asked;
-use ti_types::{Answer, Call, Frame, Place, ThreadNo, TraceBuf};
+use ti_types::{Answer, Call, Frame, Place, ThreadNo, TiError, TraceBuf};
 
 /// The location of a frame in a native method: -1.
 const NATIVE_INDEX: u64 = u64::MAX;
@@ -121,9 +121,22 @@ impl Desk {
             Ok(Asked::Answered(answer)) => Ok(answer),
             Ok(Asked::Waiting(ticket)) => {
                 let _it_goes_with_the_agent = self.agent.cancel_now(self.alloc, ticket);
+                let _it_makes_room = self.discard(ticket.thread);
                 Err(Refusal::Error(JdwpError::ThreadNotSuspended))
             }
+            Err(TiError::Full) => Err(self.discard(ThreadNo(thread))),
             Err(error) => Err(refusal_of_call(error)),
+        }
+    }
+
+    /// Discards the answer to a call that was taken back at a thread, if one is there: then there is room for another call.
+    /// 13 THREAD_NOT_SUSPENDED if not, since the thread has not handed over.
+    fn discard(&mut self, thread: ThreadNo) -> Refusal
+        ensures { self.new ≡ record self.old { agent = self.new.agent } }
+    {
+        match self.agent.discard_now(thread) {
+            Ok(None) => Refusal::Error(JdwpError::ThreadNotSuspended),
+            _ => Refusal::Later,
         }
     }
 
