@@ -1,9 +1,9 @@
 -- What is kept of a thread, and what is freed.
 use Rattle.std.proofs.Common.{◌≡◌, ◌∙◌, ◌⊎◌, ◌+◌, ◌<◌, ◌≤◌, ℕ, zero, suc, Bool, true, false, not, cond, eqb, List, [], ◌∷◌, ◌++◌, Some, length, map, filter, take, drop, slice_get, get_or, set, refl, ap, sym, subst, inl, inr, arith, length-append}
 use Rattle.std.specs.Prelude.{◌≢◌}
-use Rattle.std.specs.List.{fold, sum_by}
+use Rattle.std.specs.List.{sum_by}
 use Rattle.std.proofs.lemmas.List.Sums.{sum_by-append, sum_by-cons}
-use Rattle.std.proofs.lemmas.Bool.{cases_Bool, eqb-true, ne_eqb}
+use Rattle.std.proofs.lemmas.Bool.{eqb-true, ne_eqb}
 use Rattle.std.proofs.lemmas.List.{take-append-le, take_all}
 use Rattle.ti_debugger.specs.Kept.{IsKept, Names, NamesBelow, all_disposed, bytes_of, disposed, is_which, lessened, numbered, of_thread, size_of, stays, told_once, without}
 use Rattle.ti_debugger.specs.declared.objects.Disposal.{Disposal}

@@ -1,4 +1,4 @@
-use Rattle.std.proofs.Common.{◌≡◌, ◌∙◌, ◌++◌, ◌∷◌, [], List, ap, sym}
+use Rattle.std.proofs.Common.{◌∙◌, ◌++◌, ◌∷◌, [], List, ap, sym}
 use Rattle.ti_debugger.specs.declared.objects.Disposal.{Disposal}
 use Rattle.ti_debugger.proofs.EffectLaws.{none_yet, one_more, passed_over}
 use Rattle.ti_debugger.proofs.effects.disposals_in.Goals as goal
