@@ -13,8 +13,8 @@ STOPPED = re.compile(r"((?:Breakpoint hit|Step completed): [^\n]*)\n(?:[^\n]*\n)
 
 
 def told(text):
-    """What is told of a stop: the thread, the function and the line."""
-    stop = re.search(r'(Breakpoint hit|Step completed): "thread=([^"]*)", (\S+)\(\), line=(\d+)', text)
+    """What is told of a stop: the thread, the function and the line. jdb may have written in between that the breakpoint is set."""
+    stop = re.search(r'(Breakpoint hit|Step completed): (?:Set breakpoint \S+\n> )?"thread=([^"]*)", (\S+)\(\), line=(\d+)', text)
     return stop and (stop[1], stop[2], stop[3], int(stop[4]))
 
 
