@@ -81,15 +81,19 @@ static int attach(cq_server *to) {
     return socket;
 }
 
-/* It reads its next event, of this number: the thread stopped at this line for the request 1. */
+/* It reads its next event, of this number: the thread stopped at this line for the request 1. A thousand hits take long under valgrind. */
 static void is_told(int socket, uint32_t number, unsigned line) {
     static packet wanted;
     uint8_t found[100];
     char data[120];
+    ssize_t got = -1;
     snprintf(data, sizeof data, "01 00000001 02 00000001 " FIRST " 01 0000000400000000 0000000600000000 %016x", line);
     make_request(&wanted, number, 64, 100, data);
     CHECK(wanted.length <= sizeof found);
-    SAME(recv(socket, found, wanted.length, MSG_WAITALL), wanted.length);
+    for (int tries = 0; tries < 12 && got < 0; tries++) {
+        got = recv(socket, found, wanted.length, MSG_WAITALL);
+    }
+    SAME(got, wanted.length);
     check_bytes(found, wanted.length, &wanted);
 }
 
