@@ -70,5 +70,6 @@ def build_archive(name, jobs):
     crate = crates()[name]
     archive = crate.folder / f"out/lib{name}.a"
     archive.unlink(missing_ok=True)
+    archive.parent.mkdir(exist_ok=True)
     done = call("build", crate, "--toolchain", f"{KIT}/toolchain", "--backend", "llvm", "-o", archive, jobs=jobs, cwd=crate.folder)
     return archive if done.returncode == 0 else None
