@@ -212,8 +212,8 @@ uint32_t cq_door_tell_variables(cq_door *door, const cq_variable *variables, siz
                                 size_t length) CQ_MUST_USE;
 
 /* Answers a question of kind CQ_QUESTION_VALUES. Texts and entries stand one behind the other in `texts`, in UTF-8 or not: a debugger
- * shows bytes that are not as it likes. A debugger may ask about texts and tables again until it resumes the thread, so they are kept
- * until then: at most 65,536 at a time, of 16 MiB. If two values have one slot, the first counts.
+ * shows bytes that are not as it likes. A debugger may ask about texts and tables again until it resumes the thread or disposes of
+ * them, so they are kept until then: at most 65,536 at a time, of 16 MiB. If two values have one slot, the first counts.
  *
  *   CQ_NONE 303              no such question is open; nothing changes
  *   CQ_ILLEGAL_ARGUMENT 103  there is no such kind; a boolean's bits are neither 0 nor 1; an entry does not stand behind its table, or
