@@ -296,7 +296,8 @@ impl ThreadCell {
         Some(slot)
     }
 
-    /// Puts the slot back and clears the lock bit. It wakes nobody.
+    /// Puts the slot back and clears the lock bit. It wakes nobody. If somebody calls for the thread now, and nobody did before, it
+    /// is entered into the list of the watch that is told of it. By then the word shows the call.
     #[inline(always)]
     pub(crate) fn give(&self, seat: &mut Pass, slot: Parked)
         requires seat { (seat.old.table_id ≡ self.now) × (seat.old.me.1 ≡ (0, None) ∷ []) × (seat.old.me.0.holds ≡ true) × (seat.old.me.0.gone ≡ false) }
@@ -309,11 +310,18 @@ impl ThreadCell {
     {
         let armed = slot.armed();
         let word = Word::free(slot.len(), armed, slot.barred());
-        self.poll_word.show(armed);
+        let wanted = if self.poll_word.show(armed) {
+            slot.watched()
+        } else {
+            None
+        };
         if let Some(_found) = self.table.shared.exchange(seat, 0, Some(slot)) {
             unreachable!()
         }
         self.table.shared.store::<Frees>(seat, 0, word.bits);
+        if let Some(watched) = wanted {
+            watched.enter();
+        }
     }
 
     /// What the word shows, by one load: the bits that the history has at that moment, and its length. That is at least the

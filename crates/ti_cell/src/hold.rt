@@ -4,6 +4,7 @@ use crate::cell::ThreadCell;
 use crate::parked::Parked;
 use crate::role::Role;
 use crate::seat::{CellSeat, Pass};
+use crate::wanted::Watched;
 use std::marker::{Model, PhantomData};
 use std::sync::Arc;
 use ti_types::{Limits, ThreadNo};
@@ -34,6 +35,13 @@ impl<'a, K: Role> Model for Hold<'a, K> {
 }
 
 impl<'a, K: Role> Hold<'a, K> {
+    /// From now on this is told when the thread is wanted, and what was told before no longer is. No contract says what is told.
+    pub fn watch(&mut self, watched: Option<Arc<Watched>>)
+        ensures hold { self.new ≡ self.old }
+    {
+        self.slot.watched = watched;
+    }
+
     /// Puts the slot back, clears the lock bit, and gives the seat back. The seat has now seen the slot's history.
     ///
     /// The slot is the one that was held. All that was added to its history since is of this seat's number. The tickets of

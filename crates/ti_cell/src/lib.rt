@@ -36,6 +36,7 @@ mod seat;
 mod sleepers;
 mod sleeping;
 mod view;
+mod wanted;
 mod word;
 
 pub use cell::ThreadCell;
@@ -45,3 +46,4 @@ pub use pace::Pace;
 pub use role::{EnvRole, OwnerRole, Role};
 pub use seat::{CellSeat, EnvSeat, OwnSeat};
 pub use view::{CellRule, Subject, User, View};
+pub use wanted::{WantedList, Watched};

@@ -1,14 +1,19 @@
 //! A slot as it lies in its cell.
 
+use crate::wanted::Watched;
 use std::alloc::{AllocError, Global};
 use std::marker::Model;
+use std::sync::Arc;
 use ti_slot::Slot;
 use ti_types::{EnvNo, Limits, ThreadNo, TiError};
 
-/// A slot in a box, so that moving it moves a pointer. Contracts see it as the slot.
+/// A slot in a box, so that moving it moves a pointer, and what is to be told that its thread is wanted. Contracts see it as
+/// the slot.
 #[derive(Drop)]
 pub struct Parked {
     pub(crate) slot: Box<Slot>,
+    /// `None` if no watch is told of the thread.
+    pub(crate) watched: Option<Arc<Watched>>,
 }
 
 impl Model for Parked {
@@ -26,7 +31,10 @@ impl Parked {
         ensures memory { IfErr result (λ e. e ≡ TiError.OutOfMemory) }
     {
         match Box::new(alloc, Slot::new(alloc, limits, number)?) {
-            Ok(slot) => Ok(Parked { slot }),
+            Ok(slot) => Ok(Parked {
+                slot,
+                watched: None,
+            }),
             Err(refused) => Err(AllocError::from(refused).into()),
         }
     }
@@ -53,6 +61,16 @@ impl Parked {
         }
     }
 
+    /// What is to be told that the thread is wanted.
+    #[inline(never)]
+    pub fn watched(&self) -> Option<Arc<Watched>> {
+        match &self.watched {
+            // There are never 2^63 references.
+            Some(watched) => Arc::try_clone(watched).ok(),
+            None => None,
+        }
+    }
+
     /// Whether the thread has to hand over at its next poll.
     #[inline(always)]
     pub fn armed(&self) -> bool
@@ -76,7 +94,7 @@ pub fn unpark(parked: Option<Parked>) -> Option<Slot>
 {
     match parked {
         Some(p) => {
-            let Parked { slot } = p;
+            let Parked { slot, watched: _ } = p;
             Some(Box::into_inner(slot))
         }
         None => None,

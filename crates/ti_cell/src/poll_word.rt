@@ -19,13 +19,16 @@ impl PollWord {
         }
     }
 
-    /// Shows whether somebody calls for the thread. It writes only what changes.
+    /// Shows whether somebody calls for the thread. It writes only what changes. Returns whether somebody calls now, and nobody
+    /// did before.
     #[inline(always)]
-    pub fn show(&self, called: bool) {
+    pub fn show(&self, called: bool) -> bool {
         let bits = u64::from(called);
-        if self.word.load(Ordering::SeqCst) != bits {
-            self.word.store(bits, Ordering::SeqCst);
+        if self.word.load(Ordering::SeqCst) == bits {
+            return false;
         }
+        self.word.store(bits, Ordering::SeqCst);
+        called
     }
 
     /// Its address.

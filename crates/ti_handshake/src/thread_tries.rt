@@ -8,6 +8,8 @@ use crate::fresh::Fresh;
 use crate::polled::Polled;
 use crate::running::Running;
 use crate::safe::{AtSafe, Ended};
+use std::sync::Arc;
+use ti_cell::Watched;
 use ti_types::{Kind, Safe, TiError};
 
 impl Fresh {
@@ -161,6 +163,35 @@ impl Running {
         }
     }
 
+    /// From now on `watched` is told when the thread is wanted, and what was told before no longer is. `None` is nobody. It tries to
+    /// hold the cell just once. Returns whether somebody calls for the thread now, which `watched` is not told of.
+    ///
+    /// If the cell is in use (this profile: `Busy`, 215), the error is the thread, as it was.
+    pub fn watch_now(self, watched: Option<Arc<Watched>>) -> Result<(Running, bool), Running>
+        ensures called { IfOk result (λ w. w.1 ≡ is_armed w.0.view.subject.limits w.0.view.seen) }
+        ensures hold { IfOk result (λ w. Holds self.view w.0.view []) }
+        ensures thread { IfOk result (λ w. w.0 ≡ with_view self w.0.view) }
+        ensures busy { IfErr result (λ r. r ≡ self) }
+    {
+        let Running {
+            cell,
+            seat,
+            frames,
+            log,
+            left,
+        } = self;
+        match cell.hold_now(seat) {
+            Ok(mut hold) => {
+                hold.watch(watched);
+                let slot = hold.slot();
+                let called = slot.armed();
+                let seat = hold.store_quietly();
+                Ok((Running::of(cell, seat, frames, log, left), called))
+            }
+            Err(seat) => Err(Running::of(cell, seat, frames, log, left)),
+        }
+    }
+
     /// Ends the thread as `end` does, but tries to hold the cell just once. The logged steps enter the history, and its
     /// frames go. Then the waiting calls take place, at a thread that is no longer alive (JVM TI 11, GetThreadState).
     ///
@@ -231,7 +262,8 @@ ghost use Rattle.ti_types.specs.declared.entry.Entry.TheVariants as entry;
 ghost use Rattle.ti_types.specs.declared.error.TiError.TheVariants.{Busy};
 ghost use Rattle.ti_types.specs.declared.state.Safe.TheVariants.{Native as IntoNative, Blocked as IntoBlocked, AtPoll};
 ghost use Rattle.ti_replay.specs.LateTickets.{steps_of};
+ghost use Rattle.ti_replay.specs.Legal.{is_armed};
 ghost use Rattle.ti_handshake.specs.Call.{Holds, found};
 ghost use Rattle.ti_handshake.specs.Polls.{IsPolled, polled, view_of};
-ghost use Rattle.ti_handshake.specs.Thread.{refused_at, logged};
+ghost use Rattle.ti_handshake.specs.Thread.{refused_at, logged, with_view};
 ghost use Rattle.ti_handshake.specs.Tries.{StaysBarred, RunsOn};
