@@ -10,6 +10,7 @@ env_is : (o : Option Held) (e : HeldEnv) → env_of o ≡ Some e → Some (held.
 env_is (Some (held.Service m)) e is = absurd (none-some e is)
 env_is (Some (held.Thread t)) e is = absurd (none-some e is)
 env_is (Some (held.Door d)) e is = absurd (none-some e is)
+env_is (Some (held.Watch w)) e is = absurd (none-some e is)
 env_is (Some (held.Env f)) e is = ap (λ (x : HeldEnv). Some (held.Env x)) (sym (same_Some f e is))
 env_is None e is = absurd (none-some e is)
 

@@ -1,5 +1,6 @@
 -- Handles, and what lies behind them.
-use Rattle.std.specs.Prelude.{ℕ, Option, Some, None}
+use Rattle.std.specs.Prelude.{ℕ, List, Option, Some, None}
+use Rattle.ti_types.specs.declared.numbers.ThreadNo.{ThreadNo}
 use Rattle.ti_service.specs.Memberships.{AgentValue, TraceValue}
 use Rattle.ti_service.specs.Service.{Member}
 use Rattle.ti_thread.specs.declared.host_thread.HostThread.{HostThread}
@@ -28,6 +29,7 @@ service_of (Some (held.Service m)) = Some m
 service_of (Some (held.Thread t)) = None
 service_of (Some (held.Env e)) = None
 service_of (Some (held.Door d)) = None
+service_of (Some (held.Watch w)) = None
 service_of None = None
 
 abbrev pub service_in : Handle → Option Member
@@ -42,6 +44,7 @@ thread_of (Some (held.Service m)) = None
 thread_of (Some (held.Thread t)) = Some t
 thread_of (Some (held.Env e)) = None
 thread_of (Some (held.Door d)) = None
+thread_of (Some (held.Watch w)) = None
 thread_of None = None
 
 abbrev pub thread_in : Handle → Option HeldThread
@@ -56,6 +59,7 @@ env_of (Some (held.Service m)) = None
 env_of (Some (held.Thread t)) = None
 env_of (Some (held.Env e)) = Some e
 env_of (Some (held.Door d)) = None
+env_of (Some (held.Watch w)) = None
 env_of None = None
 
 abbrev pub env_in : Handle → Option HeldEnv
@@ -70,6 +74,7 @@ door_box_of (Some (held.Service m)) = None
 door_box_of (Some (held.Thread t)) = None
 door_box_of (Some (held.Env e)) = None
 door_box_of (Some (held.Door d)) = Some d
+door_box_of (Some (held.Watch w)) = None
 door_box_of None = None
 
 abbrev pub door_box_in : Handle → Option HeldDoor
@@ -77,6 +82,21 @@ door_box_in h = door_box_of h.place.held
 
 abbrev pub with_door_box : Handle → HeldDoor → Handle
 with_door_box h d = with_held h (held.Door d)
+
+-- the same of a watch, which is seen as the threads that it watches
+abbrev pub watch_of : Option Held → Option (List ThreadNo)
+watch_of (Some (held.Service m)) = None
+watch_of (Some (held.Thread t)) = None
+watch_of (Some (held.Env e)) = None
+watch_of (Some (held.Door d)) = None
+watch_of (Some (held.Watch w)) = Some w
+watch_of None = None
+
+abbrev pub watch_in : Handle → Option (List ThreadNo)
+watch_in h = watch_of h.place.held
+
+abbrev pub with_watch : Handle → List ThreadNo → Handle
+with_watch h w = with_held h (held.Watch w)
 
 -- the door behind a handle
 abbrev pub door_in_box : Option HeldDoor → Option AnyDoor

@@ -14,6 +14,7 @@ pub mod Frames
 pub mod Pops
 pub mod Lives
 pub mod Services
+pub mod Watches
 pub mod Resuming
 pub mod Defining
 pub mod Classes

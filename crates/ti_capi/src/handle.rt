@@ -1,8 +1,8 @@
 //! The handle.
 ghost use Rattle.std.specs.Prelude.{◌≡◌, ◌==◌, is_some, None, Some};
-ghost use Rattle.ti_capi.specs.Handles.{service_in};
+ghost use Rattle.ti_capi.specs.Handles.{service_in, watch_in};
 
-use crate::held::{Held, SERVICE, is_kind};
+use crate::held::{Held, SERVICE, WATCH, is_kind};
 use crate::held_at::HeldAt;
 use crate::parts::Parts;
 use std::alloc::Global;
@@ -26,6 +26,8 @@ pub type CqThread = CqHandle;
 pub type CqEnv = CqHandle;
 /// A handle of a door.
 pub type CqDoor = CqHandle;
+/// A handle of a watch.
+pub type CqWatch = CqHandle;
 
 impl Model for CqHandle {
     ghost use Rattle.ti_capi.specs.Handles.{Handle};
@@ -72,6 +74,13 @@ impl CqHandle {
         ensures { result ≡ is_some (service_in self.now) }
     {
         self.kind == SERVICE
+    }
+
+    /// Whether it is a handle of a watch.
+    pub(crate) fn is_watch(&self) -> bool
+        ensures { result ≡ is_some (watch_in self.now) }
+    {
+        self.kind == WATCH
     }
 
     /// Frees the box, if there is one. It is empty then.

@@ -7,11 +7,13 @@ ghost use Rattle.ti_capi.specs.contracts.handle.CqHandle.{the_row};
 ghost use Rattle.ti_capi.specs.contracts.held.HeldDoor.{the_row as box_row};
 ghost use Rattle.ti_capi.specs.contracts.held.HeldEnv.{the_row as env_row};
 ghost use Rattle.ti_capi.specs.contracts.held.HeldThread.{the_row as thread_row};
-ghost use Rattle.ti_capi.specs.Handles.{door_box_in, env_in, service_in, thread_in, with_door_box, with_held_env, with_held_thread, with_service};
+ghost use Rattle.ti_capi.specs.Handles.{door_box_in, env_in, service_in, thread_in, watch_in, with_door_box, with_held_env, with_held_thread, with_service, with_watch};
+ghost use Rattle.ti_wanted.specs.contracts.watch.Watch.{the_row as watch_row};
 
 use crate::handle::CqHandle;
-use crate::held::{DOOR, ENV, HeldDoor, HeldEnv, HeldThread, SERVICE, THREAD};
+use crate::held::{DOOR, ENV, HeldDoor, HeldEnv, HeldThread, SERVICE, THREAD, WATCH};
 use ti_service::Service;
+use ti_wanted::Watch;
 
 impl CqHandle {
     /// The handle of the service.
@@ -57,6 +59,18 @@ impl CqHandle {
     {
         if self.kind == DOOR {
             self.place.as_mut().door()
+        } else {
+            None
+        }
+    }
+
+    /// The watch.
+    pub(crate) fn watch(&mut self) -> Option<&mut Watch>
+        ensures* writes_back { sem 𝓛 (LendsIf the_row watch_row self.entry result (with_watch self.old) self.old) }
+        ensures value { option_map (λ r. r.now) result ≡ watch_in self.old }
+    {
+        if self.kind == WATCH {
+            self.place.as_mut().watch()
         } else {
             None
         }

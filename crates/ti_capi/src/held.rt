@@ -5,6 +5,7 @@ use crate::held_trace::HeldTrace;
 use ti_service::{Agent, Service};
 use ti_thread::HostThread;
 use ti_types::{Frame, StackInfo};
+use ti_wanted::Watch;
 
 /// The kind of a handle of the service.
 pub(crate) const SERVICE: u32 = 1;
@@ -14,6 +15,8 @@ pub(crate) const THREAD: u32 = 2;
 pub(crate) const ENV: u32 = 3;
 /// The kind of a handle of a door.
 pub(crate) const DOOR: u32 = 4;
+/// The kind of a handle of a watch.
+pub(crate) const WATCH: u32 = 5;
 
 /// What a handle holds. Each variant has a kind of its own.
 #[derive(Drop)]
@@ -22,6 +25,7 @@ pub enum Held {
     Thread(HeldThread),
     Env(HeldEnv),
     Door(HeldDoor),
+    Watch(Watch),
 }
 
 /// A thread, and a handle of its service, by which it is given back.
@@ -62,6 +66,7 @@ impl Held {
             Held::Thread(_) => THREAD,
             Held::Env(_) => ENV,
             Held::Door(_) => DOOR,
+            Held::Watch(_) => WATCH,
         }
     }
 }
@@ -70,7 +75,11 @@ impl Held {
 pub(crate) fn is_kind(number: u32) -> bool
     ensures { result ≡ is_kind number }
 {
-    number == SERVICE || number == THREAD || number == ENV || number == DOOR
+    number == SERVICE
+        || number == THREAD
+        || number == ENV
+        || number == DOOR
+        || number == WATCH
 }
 
 ghost use Rattle.std.specs.Prelude.{◌≡◌};

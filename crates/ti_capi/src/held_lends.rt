@@ -9,12 +9,14 @@ ghost use Rattle.ti_capi.specs.contracts.held.HeldEnv.{the_row as env_row};
 ghost use Rattle.ti_capi.specs.contracts.held.HeldThread.{the_row as thread_row};
 ghost use Rattle.ti_capi.specs.contracts.held_at.HeldAt.{the_row as at_row};
 ghost use Rattle.ti_capi.specs.declared.held.Held.{Held as HeldValue};
-ghost use Rattle.ti_capi.specs.declared.held.Held.TheVariants.{Door as OfDoor, Env, Service as OfService, Thread};
-ghost use Rattle.ti_capi.specs.Handles.{door_box_of, env_of, holding, service_of, thread_of};
+ghost use Rattle.ti_capi.specs.declared.held.Held.TheVariants.{Door as OfDoor, Env, Service as OfService, Thread, Watch as OfWatch};
+ghost use Rattle.ti_capi.specs.Handles.{door_box_of, env_of, holding, service_of, thread_of, watch_of};
+ghost use Rattle.ti_wanted.specs.contracts.watch.Watch.{the_row as watch_row};
 
 use crate::held::{Held, HeldDoor, HeldEnv, HeldThread};
 use crate::held_at::HeldAt;
 use ti_service::Service;
+use ti_wanted::Watch;
 
 impl HeldAt {
     /// What is in the box.
@@ -68,6 +70,17 @@ impl Held {
     {
         match self {
             Held::Door(held) => Some(held),
+            _ => None,
+        }
+    }
+
+    /// The watch, if it is one.
+    pub(crate) fn watch(&mut self) -> Option<&mut Watch>
+        ensures* writes_back { sem 𝓛 (LendsIf held_row watch_row self.entry result OfWatch self.old) }
+        ensures value { option_map (λ r. r.now) result ≡ watch_of (Some self.old) }
+    {
+        match self {
+            Held::Watch(watch) => Some(watch),
             _ => None,
         }
     }

@@ -43,12 +43,13 @@ mod thread_steps;
 mod thread_stops;
 mod thread_turns;
 mod values;
+mod watches;
 mod writes;
 
 pub use any_door::AnyDoor;
 pub use class_values::{CqClassRanges, CqLineEntry, CqMethodName, CqMethodRanges, CqRange};
 pub use door_questions::{CqQuestion, CqValue, CqVariable};
-pub use handle::{CqDoor, CqEnv, CqHandle, CqService, CqThread};
+pub use handle::{CqDoor, CqEnv, CqHandle, CqService, CqThread, CqWatch};
 pub use held::{Held, HeldDoor, HeldEnv, HeldThread};
 pub use held_at::HeldAt;
 pub use parts::Parts;

@@ -1,12 +1,15 @@
 -- Calls that leave a running thread running.
-use Rattle.std.specs.Prelude.{◌≡◌, ◌≤◌, Bool, true, not, List, length, None, Some}
+use Rattle.std.specs.Prelude.{◌≡◌, ◌≤◌, Bool, true, not, List, [], length, None, Some, Result, Ok, Err}
 use Rattle.ti_types.specs.declared.entry.Entry.TheVariants.{Own}
-use Rattle.ti_types.specs.declared.error.TiError.TheVariants.{NotRunning}
+use Rattle.ti_types.specs.declared.error.TiError.{TiError}
+use Rattle.ti_types.specs.declared.error.TiError.TheVariants.{Busy, NotRunning}
 use Rattle.ti_types.specs.declared.place.Frame.{Frame}
 use Rattle.ti_types.specs.declared.step.Step.{Step}
 use Rattle.ti_frames.specs.Changes.{steps_between}
+use Rattle.ti_replay.specs.Legal.{is_armed}
 use Rattle.ti_cell.specs.declared.look.Look.{Look}
 use Rattle.ti_cell.specs.View.{glanced}
+use Rattle.ti_handshake.specs.Call.{Holds}
 use Rattle.ti_handshake.specs.Thread.{Runner, frames_refusal, logged, refused_at, with_all, with_step, with_view}
 use Rattle.ti_thread.specs.declared.any_thread.AnyThread.{AnyThread}
 use Rattle.ti_thread.specs.declared.any_thread.AnyThread.TheVariants.{Fresh, Running, Safe, Ended}
@@ -46,3 +49,17 @@ LooksFor (Running r) new clear = (look : Look) × (new ≡ Running (with_view r 
 LooksFor (Fresh s) new clear = (new ≡ Fresh s) × (clear ≡ true)
 LooksFor (Safe s) new clear = (new ≡ Safe s) × (clear ≡ true)
 LooksFor (Ended s) new clear = (new ≡ Ended s) × (clear ≡ true)
+
+-- What is told of a running thread is another watch, or nobody, unless its cell is in use. `called` is whether somebody calls for it
+abbrev pub WatchesFrom : Runner → AnyThread → Result Bool TiError → Type 0
+WatchesFrom r (Running n) (Ok called) = (n ≡ with_view r n.view) × Holds r.view n.view [] × (called ≡ is_armed n.view.subject.limits n.view.seen)
+WatchesFrom r (Fresh s) (Ok called) = ⊥
+WatchesFrom r (Safe s) (Ok called) = ⊥
+WatchesFrom r (Ended s) (Ok called) = ⊥
+WatchesFrom r new (Err e) = (new ≡ Running r) × (e ≡ Busy)
+
+abbrev pub Watches : AnyThread → AnyThread → Result Bool TiError → Type 0
+Watches (Running r) new told = WatchesFrom r new told
+Watches (Fresh s) new told = (new ≡ Fresh s) × (told ≡ Err NotRunning)
+Watches (Safe s) new told = (new ≡ Safe s) × (told ≡ Err NotRunning)
+Watches (Ended s) new told = (new ≡ Ended s) × (told ≡ Err NotRunning)

@@ -1,6 +1,8 @@
-//! Calls that leave a running thread running. None holds its cell.
+//! Calls that leave a running thread running. Only `watch` holds its cell.
 
 use crate::any_thread::{AnyThread, TurnOutcome};
+use std::sync::Arc;
+use ti_cell::Watched;
 use ti_types::{Frame, Step, TiError};
 
 impl AnyThread {
@@ -59,6 +61,25 @@ impl AnyThread {
             AnyThread::Fresh(_) | AnyThread::Safe(_) | AnyThread::Ended(_) => true,
         }
     }
+
+    /// From now on `watched` is told when the thread is wanted, and what was told before no longer is. `None` is nobody. Returns
+    /// whether somebody calls for the thread now, which `watched` is not told of.
+    ///
+    /// Refused with the first of these that fits (this profile). Then nothing changes.
+    ///
+    /// - `NotRunning` (204): the thread does not run.
+    /// - `Busy` (215): its cell is in use.
+    pub fn watch(self, watched: Option<Arc<Watched>>) -> (AnyThread, Result<bool, TiError>)
+        ensures { Watches self result.0 result.1 }
+    {
+        match self {
+            AnyThread::Running(running) => match running.watch_now(watched) {
+                Ok((running, called)) => (AnyThread::Running(running), Ok(called)),
+                Err(running) => (AnyThread::Running(running), Err(TiError::Busy)),
+            },
+            other => (other, Err(TiError::NotRunning)),
+        }
+    }
 }
 
-ghost use Rattle.ti_thread.specs.Changes.{LooksFor, SetsFrames, Steps};
+ghost use Rattle.ti_thread.specs.Changes.{LooksFor, SetsFrames, Steps, Watches};

@@ -2,6 +2,8 @@
 
 use crate::any_thread::{AnyThread, TurnOutcome};
 use crate::turn::Turn;
+use std::sync::Arc;
+use ti_cell::Watched;
 use ti_handshake::Fresh;
 use ti_types::{Frame, Step, TiError};
 
@@ -170,6 +172,16 @@ impl HostThread {
         self.thread.set_frames(frames)
     }
 
+    /// From now on `watched` is told when the thread is wanted, as `AnyThread::watch` says.
+    pub fn watch(self, watched: Option<Arc<Watched>>) -> (HostThread, Result<bool, TiError>)
+        ensures thread { Watches self.thread result.0.thread result.1 }
+        ensures pops { result.0 ≡ with_thread self result.0.thread }
+    {
+        let HostThread { thread, pops } = self;
+        let (thread, told) = thread.watch(watched);
+        (HostThread::of(thread, pops), told)
+    }
+
     /// Whether nobody calls for the thread, by one load (JEP 312). True of a thread that does not run.
     pub fn poll_clear(&mut self) -> bool
         ensures { (self.new ≡ with_thread self.old self.new.thread) × LooksFor self.old.thread self.new.thread result }
@@ -179,5 +191,5 @@ impl HostThread {
 }
 
 ghost use Rattle.std.specs.Prelude.{◌≡◌};
-ghost use Rattle.ti_thread.specs.Changes.{LooksFor, Steps};
+ghost use Rattle.ti_thread.specs.Changes.{LooksFor, Steps, Watches};
 ghost use Rattle.ti_thread.specs.Hosts.{CountsFrames, Keeps, SetsUnlessPopped, TakesTurn, host_of, new_host, pops_after, pops_before, with_popped, with_thread};
