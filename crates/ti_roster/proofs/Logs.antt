@@ -89,7 +89,8 @@ mark_skips e m (Attached f) off = ap (λ (b : Bool). if b then Some 0 else m) of
 mark_skips e m (Met f n) off = ap (λ (b : Bool). if b then Some n else m) off
 mark_skips e m (GaveBack f t) off = ap (λ (b : Bool). if b then Some 0 else m) off
 mark_skips e m (Disposed f) off = ap (λ (b : Bool). if b then None else m) off
-mark_skips e m (Stop o call) off = refl
+mark_skips e m (Stop None call) off = refl
+mark_skips e m (Stop (Some f) call) off = refl
 
 mark_from : (e : EnvNo) (m : Option ℕ) (xs : List Coming) → fold (mark_after e) m xs ≡ fold (mark_after e) m (noted e xs)
 mark_from e m [] = refl
@@ -113,7 +114,8 @@ lies_skips e t l (Attached f) off = refl
 lies_skips e t l (Met f n) off = grind (arith, off)
 lies_skips e t l (GaveBack f u) off = grind (arith, off)
 lies_skips e t l (Disposed f) off = refl
-lies_skips e t l (Stop o call) off = refl
+lies_skips e t l (Stop None call) off = refl
+lies_skips e t l (Stop (Some f) call) off = refl
 
 pub lies_same : (e : EnvNo) (t : ThreadNo) (xs : List Coming) (x : Coming) → is_about e x ≡ false → lies e t (xs ++ x ∷ []) ≡ lies e t xs
 lies_same e t xs x off = lies_more e t xs x ∙ lies_skips e t (lies e t xs) x off

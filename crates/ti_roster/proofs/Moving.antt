@@ -1,8 +1,9 @@
 -- What whoever holds the roster may do to it.
 use Rattle.std.proofs.Common.{◌≡◌, ◌≢◌, Bool, ℕ, ◌==◌, true, false, is_some, if◌then◌else◌, List, [], ◌∷◌, ◌++◌, Option, Some, None, refl, sym, ap, ◌∙◌, subst, eq-eqb, ne_eqb, append-nil, append_assoc}
 use Rattle.ti_types.specs.declared.numbers.EnvNo.{EnvNo}
+use Rattle.ti_stops.specs.declared.call.StopCall.{StopCall}
 use Rattle.ti_roster.specs.declared.coming.Coming.{Coming}
-use Rattle.ti_roster.specs.declared.coming.Coming.TheVariants.{Attached, Met}
+use Rattle.ti_roster.specs.declared.coming.Coming.TheVariants.{Attached, Met, Stop}
 use Rattle.ti_roster.specs.Log.{Log, is_about, mark_of, noted, threads_in, with_items}
 use Rattle.ti_roster.specs.Roster.{has_met_all, meeting}
 use Rattle.ti_roster.specs.Rule.{Begins, Claims, Moves}
@@ -50,6 +51,25 @@ some_env e f h = cc
 
 pub other_env : (e f : EnvNo) → Some e ≢ Some f → (e.0 == f.0) ≡ false
 other_env e f other = ne_eqb e.0 f.0 (λ same. other (ap (λ (k : ℕ). Some (record { 0 = k })) same))
+
+-- a call about stops came from the seat
+may_call : (o : Option EnvNo) (r r' : Log) (seen : List Coming) (call : StopCall) → Claims r.items o seen → r.user ≡ o → r' ≡ record { items = r.items ++ Stop o call ∷ []; limits = r.limits; user = r.user } → MayBe o r r'
+may_call o r r' seen call claims user is = subst (λ (y : Log). MayBe o r y) (sym is) (record {
+  begins = (Stop o call ∷ [], refl);
+  moves = subst (λ (u : Option EnvNo). Moves o u r.items (r.items ++ Stop o call ∷ [])) (sym user) (record {
+    others = λ f not _. noted_same f r.items (Stop o call) (others_call o f not);
+    there = λ e mine. ap (λ (m : Option ℕ). is_some m) (mark_more e r.items (Stop o call)) ∙ is_claimed r.items seen o e mine claims;
+    free = λ e mine not. absurd (not mine);
+  });
+  limits = refl;
+})
+  where
+    others_call : (u : Option EnvNo) (f : EnvNo) → u ≢ Some f → is_about f (Stop u call) ≡ false
+    others_call None f not = refl
+    others_call (Some e) f not = other_env e f not
+
+pub may_stop : (o : Option EnvNo) (r r' : Log) (seen : List Coming) (call : StopCall) → Claims r.items o seen → r.user ≡ o → r' ≡ record { items = r.items ++ Stop r.user call ∷ []; limits = r.limits; user = r.user } → MayBe o r r'
+may_stop o r r' seen call claims user is = may_call o r r' seen call claims user (is ∙ ap (λ (u : Option EnvNo). record { items = r.items ++ Stop u call ∷ []; limits = r.limits; user = r.user }) user)
 
 -- the environment whose seat it is met the threads
 pub may_meet : (o : Option EnvNo) (r r' : Log) (e : EnvNo) (n : ℕ) → o ≡ Some e → r.user ≡ o → r' ≡ record { items = r.items ++ Met e n ∷ []; limits = r.limits; user = r.user } → MayBe o r r'

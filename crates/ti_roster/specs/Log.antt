@@ -54,7 +54,7 @@ mark_after e mark (Stop o call) = mark
 abbrev pub mark_of : EnvNo → List Coming → Option ℕ
 mark_of e log = fold (mark_after e) None log
 
--- whether this is about an environment's place
+-- whether this is about an environment's place, or a call about stops that was made from there
 abbrev pub is_about : EnvNo → Coming → Bool
 is_about e (Came n) = false
 is_about e (Started t) = false
@@ -64,9 +64,10 @@ is_about e (Attached f) = f.0 == e.0
 is_about e (Met f m) = f.0 == e.0
 is_about e (GaveBack f t) = f.0 == e.0
 is_about e (Disposed f) = f.0 == e.0
-is_about e (Stop o call) = false
+is_about e (Stop None call) = false
+is_about e (Stop (Some f) call) = f.0 == e.0
 
--- all that happened to an environment's place
+-- all that happened to an environment's place, and all that it asked about stops
 abbrev pub noted : EnvNo → List Coming → List Coming
 noted e log = filter (is_about e) log
 

@@ -57,11 +57,15 @@ impl<'a> RosterHold<'a> {
         let RosterHold {
             cell,
             mut seat,
-            roster,
+            mut roster,
         } = self;
+        let asked = roster.roster.as_mut().take_asked();
         let (count, place) = (roster.len(), roster.roster.user());
         let (limits, watched) = (roster.roster.limits(), roster.roster.is_watched());
         cell.give(&mut seat, roster);
+        if let Some(watched) = asked {
+            watched.enter();
+        }
         RosterSeat {
             seat,
             count,

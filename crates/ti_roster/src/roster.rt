@@ -9,7 +9,9 @@ use crate::life::Life;
 use crate::row::{Row, ThreadKey};
 use std::alloc::Global;
 use std::marker::Model;
+use std::sync::Arc;
 use ti_agent::FreeDesk;
+use ti_cell::Watched;
 use ti_chunked::Chunked;
 use ti_stops::Stops;
 use ti_trail::GhostList;
@@ -38,6 +40,10 @@ pub struct Roster {
     pub(crate) life: Life,
     /// What was asked about stops, and who waits.
     stops: Stops,
+    /// Whether somebody has asked for a stop, or no longer does, since the roster was last put back.
+    asked: bool,
+    /// What is to be told of that. `None` if nothing is.
+    watched: Option<Arc<Watched>>,
 }
 
 impl Model for Roster {
@@ -72,6 +78,8 @@ impl Roster {
             littered: vec![in alloc; false; limits.envs as usize]?,
             life: Life::new(alloc)?,
             stops: Stops::new(alloc),
+            asked: false,
+            watched: None,
         })
     }
 
@@ -350,6 +358,7 @@ impl Roster {
             self.take_back(desk);
         }
         self.marks[env.0 as usize] = None;
+        self.asked = self.asked || self.stops.is_watched();
         self.stops.leave(env);
         self.log = self.log.and(&Coming::Disposed(env));
         self.len += 1;

@@ -27,6 +27,7 @@ use Rattle.ti_roster.specs.Seats.{Sitting}
 use Rattle.ti_roster.specs.View.{AreWithin, holding, stored}
 use Rattle.ti_roster.specs.declared.view.RosterView.{RosterView}
 use Rattle.ti_roster.proofs.Moving.{MayBe, may_add, may_attach, may_dispose, may_meet_any, may_stay, other_env, own_then}
+use Rattle.ti_roster.proofs.Moving.{may_stop as called}
 use Rattle.ti_roster.proofs.Returning.{backs_own}
 use Rattle.ti_service.proofs.Homes.{own_later}
 use Rattle.ti_service.specs.Service.{Base, Member, TakesDesks, member_in}
@@ -52,7 +53,7 @@ pub may_stop : (call : StopCall) (o : Option EnvNo) (r r' : Log) (seen : List Co
 may_stop call o r r' seen (Ok reply) claims user happened same = by_news (is_news reply) happened
   where
     by_news : (b : Bool) → r' ≡ (if b then with_item r (Stop r.user call) else r) → MayBe o r r'
-    by_news true is = may_add o r r' seen (Stop r.user call) claims user (λ e. refl) is
+    by_news true is = called o r r' seen call claims user is
     by_news false is = may_stay o r r' seen claims user is
 may_stop call o r r' seen (Err e) claims user happened same = may_stay o r r' seen claims user same
 

@@ -2,8 +2,10 @@
 
 use crate::holding::{try_hold, until_free};
 use crate::service::Service;
-use std::sync::Wait;
+use std::sync::{Arc, Wait};
+use ti_cell::Watched;
 use ti_roster::{StopCall, StopError, StopReply};
+use ti_types::TiError;
 
 impl Service {
     /// Whether a thread of the runtime may have to stop at what it reaches next. It is one load, for a runtime that asks often:
@@ -27,6 +29,18 @@ impl Service {
             unreachable!()
         };
         self.roster.count(seat)
+    }
+
+    /// From now on `watched` is told when an environment asks for a stop, or no longer does, and what was told before no longer is.
+    /// `None` is nobody. Then a runtime asks by `MayStopIn` which of its code may have to stop.
+    ///
+    /// The error is 215 `Busy` (this profile) if the roster is in use. Then nothing changes.
+    pub fn watch_stops_now(&mut self, watched: Option<Arc<Watched>>) -> Result<(), TiError>
+        ensures cell { self.new.cell ≡ self.old.cell }
+        ensures hold { OnOk result (Looks self.old.view self.new.view) }
+        ensures busy { IfErr result (λ e. (e ≡ Busy) × (self.new ≡ self.old)) }
+    {
+        try_hold!(self, |roster| { roster.watch_stops(watched); Ok(()) }, else TiError::Busy)
     }
 
     /// A call about stops, which never waits. A runtime's are `Reached`, `Leaves`, `IsStopped` and `MayStopIn`; all others are an
@@ -59,6 +73,7 @@ impl Service {
     }
 }
 
-ghost use Rattle.std.specs.Prelude.{◌≡◌, IfErr, IfOk};
-ghost use Rattle.ti_service.specs.Service.{TellsCount};
+ghost use Rattle.std.specs.Prelude.{◌≡◌, IfErr, IfOk, OnOk};
+ghost use Rattle.ti_types.specs.declared.error.TiError.TheVariants.{Busy};
+ghost use Rattle.ti_service.specs.Service.{Looks, TellsCount};
 ghost use Rattle.ti_service.specs.Stops.{Calls, RefusesCall, RefusesHeld, TellsWatch};

@@ -2,6 +2,8 @@
 
 use super::{LAST, Roster};
 use crate::coming::Coming;
+use std::sync::Arc;
+use ti_cell::Watched;
 use ti_stops::{StopCall, StopError, StopReply};
 
 impl Roster {
@@ -31,10 +33,34 @@ impl Roster {
         let user = self.user;
         let reply = self.stops.call(user, call)?;
         if reply.is_news() {
+            self.asked = self.asked || asks(call);
             self.log = self.log.and(&Coming::Stop(user, call));
             self.len += 1;
         }
         Ok(reply)
+    }
+
+    /// From now on this is told when somebody asks for a stop, or no longer does, and what was told before no longer is. No contract
+    /// says what is told.
+    pub fn watch_stops(&mut self, watched: Option<Arc<Watched>>)
+        ensures { self.new ≡ self.old }
+    {
+        self.watched = watched;
+    }
+
+    /// What is to be told of what was asked since this was last called, if anything was.
+    pub(crate) fn take_asked(&mut self) -> Option<Arc<Watched>>
+        ensures { self.new ≡ self.old }
+    {
+        if !self.asked {
+            return None;
+        }
+        self.asked = false;
+        match &self.watched {
+            // There are never 2^63 references.
+            Some(watched) => Arc::try_clone(watched).ok(),
+            None => None,
+        }
     }
 
     /// Whether an environment hears of breakpoints, single steps or pops of frames. If none does, no thread stops.
@@ -42,6 +68,23 @@ impl Roster {
         ensures { result ≡ is_watched (stops_of self.now.items) }
     {
         self.stops.is_watched()
+    }
+}
+
+/// Whether a call asks for a stop, or takes that back.
+fn asks(call: StopCall) -> bool {
+    match call {
+        StopCall::Enable(..)
+        | StopCall::Disable(..)
+        | StopCall::SetBreakpoint(_)
+        | StopCall::ClearBreakpoint(_)
+        | StopCall::NotifyFramePop(..) => true,
+        StopCall::Reached(..)
+        | StopCall::Leaves(..)
+        | StopCall::IsStopped(_)
+        | StopCall::MayStopIn(..)
+        | StopCall::Next
+        | StopCall::LetGo(_) => false,
     }
 }
 
