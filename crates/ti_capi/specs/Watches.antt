@@ -2,8 +2,9 @@
 use Rattle.std.specs.Prelude.{ℕ, ◌≡◌, ◌⊎◌, ⊤, Bool, List, [], Option, Some, None, Result, Ok, Err}
 use Rattle.ti_types.specs.TiError.{number_of}
 use Rattle.ti_types.specs.declared.error.TiError.{TiError}
-use Rattle.ti_types.specs.declared.error.TiError.TheVariants.{OutOfMemory}
+use Rattle.ti_types.specs.declared.error.TiError.TheVariants.{Busy, OutOfMemory}
 use Rattle.ti_types.specs.declared.numbers.ThreadNo.{ThreadNo}
+use Rattle.ti_service.specs.Service.{Looks, Member}
 use Rattle.ti_thread.specs.AnyThread.{number_in}
 use Rattle.ti_thread.specs.Changes.{Watches}
 use Rattle.ti_thread.specs.Hosts.{with_thread}
@@ -12,7 +13,7 @@ use Rattle.ti_wanted.specs.Watching.{Gains, IsAmong}
 use Rattle.ti_capi.specs.declared.held.Held.{Held}
 use Rattle.ti_capi.specs.declared.held.HeldThread.{HeldThread}
 use Rattle.ti_capi.specs.Codes.{code_done, misused, none_told}
-use Rattle.ti_capi.specs.Handles.{Handle, held_with, thread_in, watch_in, watch_of, with_held_thread, with_watch}
+use Rattle.ti_capi.specs.Handles.{Handle, held_with, service_in, thread_in, watch_in, watch_of, with_held_thread, with_service, with_watch}
 use Rattle.ti_capi.specs.Services.{Fills}
 
 -- a watch of no thread is behind the handle, or there was no memory for it. The other handle has the watch that it had, if any
@@ -69,6 +70,27 @@ WatchesBehind None n w v t0 t1 w0 w1 code = (t1 ≡ t0) × (w1 ≡ w0) × (code 
 
 abbrev pub WatchesThread : Handle → Handle → Handle → Handle → ℕ → Type 0
 WatchesThread t0 t1 w0 w1 code = WatchesBehind (thread_in t0) (thread_in t1) (watch_in w0) (watch_in w1) t0 t1 w0 w1 code
+
+-- the number under which a watch tells that somebody asks for a stop, or no longer does: no thread has it
+abbrev pub all_threads : ThreadNo
+all_threads = record { 0 = 4294967295 }
+
+-- The watch has a place for stops, and is told of those of a service unless that is in use. Or there was no memory for the place, and
+-- nothing has changed
+abbrev pub StopsWatched : Member → Member → List ThreadNo → List ThreadNo → ℕ → Type 0
+StopsWatched m n w v code =
+    (Gains all_threads w v × (((code ≡ 0) × (n.cell ≡ m.cell) × Looks m.view n.view) ⊎ ((code ≡ number_of Busy) × (n ≡ m))))
+    ⊎ ((n ≡ m) × (v ≡ w) × (code ≡ number_of OutOfMemory))
+
+abbrev pub StopsWatchedBehind : Option Member → Option Member → Option (List ThreadNo) → Option (List ThreadNo) → Handle → Handle → Handle → Handle → ℕ → Type 0
+StopsWatchedBehind (Some m) (Some n) (Some w) (Some v) s0 s1 w0 w1 code = (s1 ≡ with_service s0 n) × (w1 ≡ with_watch w0 v) × StopsWatched m n w v code
+StopsWatchedBehind (Some m) (Some n) (Some w) None s0 s1 w0 w1 code = ⊥
+StopsWatchedBehind (Some m) n None v s0 s1 w0 w1 code = (n ≡ Some m) × (w1 ≡ w0) × (code ≡ misused)
+StopsWatchedBehind (Some m) None (Some w) v s0 s1 w0 w1 code = ⊥
+StopsWatchedBehind None n w v s0 s1 w0 w1 code = (s1 ≡ s0) × (w1 ≡ w0) × (code ≡ misused)
+
+abbrev pub WatchesStops : Handle → Handle → Handle → Handle → ℕ → Type 0
+WatchesStops s0 s1 w0 w1 code = StopsWatchedBehind (service_in s0) (service_in s1) (watch_in w0) (watch_in w1) s0 s1 w0 w1 code
 
 -- a thread that is watched is told of, or there is none and nothing is written
 abbrev pub TellsNextBehind : Option (List ThreadNo) → Option (List ThreadNo) → Handle → Handle → ℕ → ℕ → ℕ → Type 0

@@ -75,11 +75,7 @@ impl Held {
 pub(crate) fn is_kind(number: u32) -> bool
     ensures { result ≡ is_kind number }
 {
-    number == SERVICE
-        || number == THREAD
-        || number == ENV
-        || number == DOOR
-        || number == WATCH
+    number == SERVICE || number == THREAD || number == ENV || number == DOOR || number == WATCH
 }
 
 ghost use Rattle.std.specs.Prelude.{◌≡◌};

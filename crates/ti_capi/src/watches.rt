@@ -2,12 +2,13 @@
 //!
 //! `cebdyraq_watch.c` calls these, one at a time for each watch, and wakes who sleeps until a thread is wanted.
 
-use crate::codes::{CQ_MISUSED, CQ_NONE, CQ_OK, code};
-use crate::handle::{CqThread, CqWatch};
+use crate::codes::{CQ_MISUSED, CQ_NONE, CQ_OK, code, done_code};
+use crate::handle::{CqService, CqThread, CqWatch};
 use crate::held::{Held, HeldThread};
 use crate::service_calls::{boxed, fill};
 use std::alloc::Global;
-use ti_types::TiError;
+use ti_service::Service;
+use ti_types::{ThreadNo, TiError};
 use ti_wanted::Watch;
 
 /// A watch of no thread in a box. It has the count of news of another one, if there is one.
@@ -111,6 +112,37 @@ pub extern "C" fn cebdyraq_unwatch_thread(thread: &mut CqThread) -> u32
     }
 }
 
+/// The number of no thread, under which a watch is told that somebody asks for a stop, or no longer does.
+const ALL_THREADS: ThreadNo = ThreadNo(u32::MAX);
+
+/// The watch is told of the stops of a service from now on.
+fn watch_stops_of(alloc: Global, service: &mut Service, watch: &mut Watch) -> u32
+    ensures { StopsWatched service.old service.new watch.old watch.new result }
+{
+    match watch.add(alloc, ALL_THREADS) {
+        Ok((watched, _)) => done_code(service.watch_stops_now(Some(watched))),
+        Err(error) => error.number(),
+    }
+}
+
+/// A watch is told when an environment asks for a stop, or no longer does, from now on. What was told before no longer is.
+#[unsafe(no_mangle)]
+pub extern "C" fn cebdyraq_watch_stops(
+    alloc: Global,
+    service: &mut CqService,
+    watch: &mut CqWatch,
+) -> u32
+    ensures { WatchesStops service.old service.new watch.old watch.new result }
+{
+    let Some(service) = service.service() else {
+        return CQ_MISUSED;
+    };
+    let Some(watch) = watch.watch() else {
+        return CQ_MISUSED;
+    };
+    watch_stops_of(alloc, service, watch)
+}
+
 /// The number of a thread that has become wanted and was not told of.
 #[unsafe(no_mangle)]
 pub extern "C" fn cebdyraq_next_wanted(watch: &mut CqWatch, thread: &mut u32) -> u32
@@ -143,4 +175,4 @@ pub extern "C" fn cebdyraq_news_of(watch: &mut CqWatch, news: &mut *mut u64) -> 
 ghost use Rattle.std.specs.Prelude.{◌≡◌, [], Some, IfOk, IfErr};
 ghost use Rattle.ti_types.specs.declared.error.TiError.TheVariants.{OutOfMemory};
 ghost use Rattle.ti_capi.specs.Handles.{watch_in, watch_of};
-ghost use Rattle.ti_capi.specs.Watches.{ClosesWatch, NewsBehind, OpensWatch, TellsNext, TellsNobody, TellsNobodyIn, WatchesIn, WatchesThread};
+ghost use Rattle.ti_capi.specs.Watches.{ClosesWatch, NewsBehind, OpensWatch, TellsNext, TellsNobody, StopsWatched, TellsNobodyIn, WatchesIn, WatchesStops, WatchesThread};

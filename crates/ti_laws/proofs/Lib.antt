@@ -5,3 +5,4 @@ mod PostingAlike
 mod RunLaws
 mod ListLaws
 mod StopShareLaws
+mod OwnCallLaws

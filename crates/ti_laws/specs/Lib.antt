@@ -3,3 +3,4 @@ pub mod Agreement
 pub mod Runs
 pub mod Lists
 pub mod StopShares
+pub mod OwnCalls

@@ -11,4 +11,4 @@ mod stops;
 
 pub use histories::{answers_agree, histories_tell_alike, others_looks_tell_nothing};
 pub use runs::{calls_agree, lists_are_deeds, posts_agree, runs_agree};
-pub use stops::stops_are_own;
+pub use stops::{own_calls_are_seen, stops_are_own};

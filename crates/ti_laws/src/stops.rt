@@ -1,4 +1,4 @@
-//! A law of stops, over the list of what happened.
+//! Laws of stops, over the list of what happened.
 
 /// What an environment asked for of stops, and what waits for it, is what its own items leave (`share`): its calls, the arrivals
 /// of threads that stop for it, threads that are given back, and its end. So two services in whose lists these are the same
@@ -8,4 +8,11 @@ pub fn stops_are_own()
     ensures replies { StopRepliesAgree }
 {}
 
+/// What an environment asked of stops was asked from its own seat: whoever holds the list by that seat finds the environment's calls
+/// that the seat has seen, and no other.
+pub fn own_calls_are_seen()
+    ensures { OwnCallsAreSeen }
+{}
+
+ghost use Rattle.ti_laws.specs.OwnCalls.{OwnCallsAreSeen};
 ghost use Rattle.ti_laws.specs.StopShares.{StopRepliesAgree, StopsFollowItems};

@@ -17,6 +17,7 @@
 #include "internal/pycore_runtime.h"
 
 #include <cebdyraq_serve.h>
+#include <cebdyraq_watch.h>
 #include <pthread.h>
 #include <stdatomic.h>
 
@@ -46,8 +47,6 @@ struct calm {
 struct thread {
     cq_thread handle;
     uint32_t number;
-    const uint64_t *word;  /* the poll word and its mask; the watcher reads it without the GIL, under `host.list` */
-    uint64_t mask;
     PyThreadState *state;
     int syscall;           /* /proc/self/task/TID/syscall, or -1 */
     enum mode mode;
@@ -63,10 +62,10 @@ struct host {
     cq_service service;
     cq_signal signal;
     cq_server http, debugger;
+    cq_watch watch;        /* tells which threads are wanted, and that what somebody asks about stops has changed */
     bool is_made, debugs;
     _Atomic bool off;      /* not started, ended, or in the child of a fork: the library is not called */
     bool tracing;          /* each thread is traced, for breakpoints and steps */
-    pthread_mutex_t list;  /* guards `threads` and `count`. It may be taken with the GIL; the GIL is not taken with it */
     struct thread **threads;
     size_t count, room;
 };
@@ -91,6 +90,7 @@ void trap_set(struct thread *t, bool at_once);
 void trap_lift(struct thread *t);
 
 /* watch.c: the watcher. */
+uint32_t watch_open(void);            /* before the first thread begins */
 int watch_start(bool debugs);
 void watch_end(void);                 /* without the GIL */
 bool watch_asks(struct thread *t);    /* whether the thread may have to stop at what it reaches next */

@@ -1,7 +1,7 @@
 /* module.c: the module cebdyraq._host. It starts and ends the inspection of this process's threads. */
 #include "host.h"
 
-struct host host = {.off = true, .list = PTHREAD_MUTEX_INITIALIZER};
+struct host host = {.off = true};
 
 void refused(const char *call, uint32_t code) { fprintf(stderr, "cebdyraq: %s: %s\n", call, cq_code_name(code)); }
 
@@ -75,6 +75,7 @@ static PyObject *start(PyObject *module, PyObject *arguments) {
     if (host.is_made) return fail("it was started before", CQ_MISUSED);
     if ((code = cq_make(DEPTH, ENVIRONMENTS, WINDOW, CQ_CAN_SUSPEND, &host.service)) != CQ_OK) return fail("cq_make", code);
     host.is_made = true;
+    if ((code = watch_open()) != CQ_OK) return fail("cq_open_watch", code);
     if (classes_init() < 0 || PySys_AddAuditHook(audit, NULL) < 0) return NULL;
     if (pthread_atfork(NULL, NULL, in_child) != 0) return PyErr_NoMemory();
     host.off = false;

@@ -16,7 +16,6 @@ int threads_init(void) {
 }
 
 static bool add(struct thread *t) {
-    pthread_mutex_lock(&host.list);
     if (host.count == host.room) {
         size_t room = host.room * 2 + 16;
         struct thread **more = realloc(host.threads, room * sizeof *more);
@@ -27,18 +26,15 @@ static bool add(struct thread *t) {
     }
     bool has_room = host.count < host.room;
     if (has_room) host.threads[host.count++] = t;
-    pthread_mutex_unlock(&host.list);
     return has_room;
 }
 
 static void take_out(const struct thread *t) {
-    pthread_mutex_lock(&host.list);
     for (size_t i = 0; i < host.count; i++)
         if (host.threads[i] == t) {
             host.threads[i] = host.threads[--host.count];
             break;
         }
-    pthread_mutex_unlock(&host.list);
 }
 
 /* Ends the thread for the library, and gives back what it has. */
@@ -78,7 +74,7 @@ void thread_begin(const char *name, size_t length) {
     }
     code = start(t);
     if (code == CQ_OK) code = cq_thread_number(&t->handle, &t->number);
-    if (code == CQ_OK) code = cq_poll_word(&t->handle, &t->word, &t->mask);
+    if (code == CQ_OK) do code = cq_watch_thread(&t->handle, &host.watch); while (code == CQ_BUSY);
     if (code != CQ_OK || !add(t)) {
         refused("the start of a thread", code != CQ_OK ? code : CQ_OUT_OF_MEMORY);
         let_go(t);

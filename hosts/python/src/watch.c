@@ -1,19 +1,20 @@
-/* watch.c: see host.h. The watcher sleeps between its looks: a millisecond while somebody asks, five otherwise. */
+/* watch.c: see host.h. The watcher sleeps until the library tells it that a thread is wanted, or that stops are. */
 #include "host.h"
 
+#include <errno.h>
+#include <poll.h>
+#include <sched.h>
 #include <signal.h>
-#include <time.h>
-
-enum { BUSY_NS = 1000000, IDLE_NS = 5000000, BUSY_LOOKS = 2000 };
+#include <sys/eventfd.h>
+#include <unistd.h>
 
 static pthread_t watcher;
 static bool watches, asks;
-static _Atomic bool ends;
-static cq_thread probe;  /* a thread that has ended, to ask whether anybody is told of stops */
+static int news = -1, end = -1;  /* what the watcher sleeps on */
 
 bool watch_asks(struct thread *t) { return asks && cq_may_stop(&t->handle); }
 
-/* Hands over for a thread that is wanted. What refuses it now (CQ_BUSY) is tried at the next look. */
+/* Hands over for a thread that is wanted. An environment that uses it now is about to let it go. */
 static void hand_over(struct thread *t, PyThreadState *holder) {
     if (t->mode == WAITS) return;
     if (t->mode != RUNS) {  /* a trace function of the script's may have taken the trap's place */
@@ -23,28 +24,25 @@ static void hand_over(struct thread *t, PyThreadState *holder) {
     if (cq_poll_clear(&t->handle)) return;
     struct place place = place_of(t, holder);
     give_frames(t, place.runs ? NULL : place.name, false);
-    uint32_t code = place.runs ? cq_poll(&t->handle) : place.is_native ? cq_native(&t->handle) : cq_block(&t->handle, place.reason);
+    uint32_t code;
+    do code = place.runs ? cq_poll(&t->handle) : place.is_native ? cq_native(&t->handle) : cq_block(&t->handle, place.reason);
+    while (code == CQ_BUSY && sched_yield() == 0);
     if (code == CQ_HELD) t->mode = HELD;
     else if (code == CQ_OK && !place.runs) t->mode = AWAY;
-    else if (code != CQ_OK && code != CQ_BUSY) refused("a hand-over", code);
+    else if (code != CQ_OK) refused("a hand-over", code);
     if (t->mode != RUNS) trap_set(t, true);
 }
 
-/* Whether somebody calls for a thread. */
-static bool is_any_wanted(void) {
-    bool found = false;
-    pthread_mutex_lock(&host.list);
-    for (size_t i = 0; i < host.count && !found; i++)
-        found = __atomic_load_n(host.threads[i]->word, __ATOMIC_RELAXED) & host.threads[i]->mask;
-    pthread_mutex_unlock(&host.list);
-    return found;
-}
-
-/* Whether somebody is told of stops. cq_may_stop alone is true after each thread that comes or goes, until cq_reached. */
-static bool is_anybody_told(void) {
-    bool stops;
-    if (!asks || !cq_may_stop(&probe)) return false;
-    return cq_wait_reached(&probe, &host.signal, UINT32_MAX, 0, &stops) == CQ_OK && cq_may_stop(&probe);
+/* Whether somebody asks for a stop anywhere. A thread that waits in the library asks by itself when it goes on. */
+static bool is_stop_asked(void) {
+    bool may = false;
+    for (size_t i = 0; asks && i < host.count && !may; i++) {
+        struct thread *t = host.threads[i];
+        if (t->mode == WAITS) continue;
+        uint32_t code;
+        do code = cq_may_stop_in(&t->handle, 0, UINT32_MAX, &may); while (code == CQ_BUSY && sched_yield() == 0);
+    }
+    return may;
 }
 
 /* Takes the GIL when its holder next looks whether it has to give it up, and not only after the switch interval. Gives the holder. */
@@ -66,17 +64,33 @@ static void trace_all(bool tracing) {
     }
 }
 
+/* Takes all that is told. `stops` is set if what somebody asks about stops has changed. */
+static bool is_any_told(bool *stops) {
+    uint32_t told[64];
+    uint64_t count;
+    bool any = false;
+    while (cq_next_wanted(&host.watch, told, sizeof told / sizeof *told, &count) == CQ_OK)
+        for (uint64_t i = 0; i < count; i++) {
+            any = true;
+            *stops |= told[i] == CQ_ALL_THREADS;
+        }
+    return any;
+}
+
 static void *watch(void *interpreter) {
     PyThreadState *own = PyThreadState_New(interpreter);  /* made here: it has the identity of the thread that makes it */
     if (own == NULL) return NULL;
-    for (unsigned quiet = BUSY_LOOKS; !ends; quiet++) {
-        nanosleep(&(struct timespec){.tv_nsec = quiet < BUSY_LOOKS ? BUSY_NS : IDLE_NS}, NULL);
-        bool told = is_anybody_told();
-        if (!is_any_wanted() && told == host.tracing) continue;
-        quiet = 0;
+    struct pollfd wakes[2] = {{.fd = news, .events = POLLIN}, {.fd = end, .events = POLLIN}};
+    while (!(wakes[1].revents & POLLIN)) {
+        bool stops = false;
+        if (!is_any_told(&stops)) {
+            poll(wakes, 2, -1);
+            continue;
+        }
         PyThreadState *holder = take_gil(own);
         for (size_t i = 0; i < host.count; i++) hand_over(host.threads[i], holder);
-        if (told != host.tracing) trace_all(told);
+        bool asked = stops ? is_stop_asked() : host.tracing;
+        if (asked != host.tracing) trace_all(asked);
         cq_wake(&host.signal);
         PyEval_SaveThread();
     }
@@ -86,17 +100,16 @@ static void *watch(void *interpreter) {
     return NULL;
 }
 
-/* Makes the thread that is only asked. It has ended, since a profile counts one that is new. */
-static uint32_t make_probe(void) {
-    uint32_t code = cq_wait_attach_thread(&host.service, &host.signal, (const uint8_t *)"watcher", 7, 5, &probe);
-    if (code == CQ_OK) code = cq_wait_start(&probe, &host.signal, -1);
-    return code == CQ_OK ? cq_wait_end(&probe, &host.signal) : code;
+uint32_t watch_open(void) {
+    uint32_t code = cq_open_watch(&host.watch);
+    if (code == CQ_OK) do code = cq_watch_stops(&host.service, &host.watch); while (code == CQ_BUSY);
+    return code == CQ_OK ? cq_watch_fd(&host.watch, &news) : code;
 }
 
 int watch_start(bool debugs) {
-    uint32_t code = debugs ? make_probe() : CQ_OK;
-    if (code != CQ_OK) {
-        PyErr_Format(PyExc_RuntimeError, "a thread for the watcher: %s", cq_code_name(code));
+    end = eventfd(0, EFD_CLOEXEC);
+    if (end < 0) {
+        PyErr_SetFromErrno(PyExc_OSError);
         return -1;
     }
     asks = debugs;
@@ -110,12 +123,9 @@ int watch_start(bool debugs) {
 }
 
 void watch_end(void) {
-    ends = true;
-    if (watches) pthread_join(watcher, NULL);
-    watches = false;
-    if (asks) {
-        uint32_t code = cq_wait_detach_thread(&probe, &host.signal);
-        if (code != CQ_OK) refused("cq_detach_thread", code);
-    }
-    asks = false;
+    if (watches && write(end, &(uint64_t){1}, sizeof(uint64_t)) == sizeof(uint64_t)) pthread_join(watcher, NULL);
+    watches = asks = false;
+    close(end);
+    uint32_t code = cq_close_watch(&host.watch);
+    if (code != CQ_OK) refused("cq_close_watch", code);
 }
