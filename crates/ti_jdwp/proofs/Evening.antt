@@ -39,9 +39,9 @@ use Rattle.ti_jdwp.specs.Queues.{may_tell, first, without_first}
 use Rattle.ti_jdwp.specs.Requests.{request_in}
 use Rattle.ti_jdwp.specs.Talks.{Talk, opened, data_of, replied, stopped, starved, greeted, after, closing}
 use Rattle.ti_jdwp.specs.Steps.{Does, EndsBy, SuspendsBy, SuspendsNext, ResumesNext, tells, finishes, BeginsEvent, told_by, said_in, refused, Puts, PutsRead, PutsInForce, SetsFor, SetsRead, SetsEvent, clears, suspended_reply, asks, ServesBy, ServesRead, ReadsBy, GoesOnWith, GoesIn, writes_first, GoesFirst}
-use Rattle.ti_jdwp.specs.SessionRuns.{Call, Fed, PeerEnded, Shut, Went, Failed, Replied, Listed, PostedAs, Settled, PlacedAs, LocatedAs, StoppedAt, Written, Happened, Began, Step}
+use Rattle.ti_jdwp.specs.SessionRuns.{Call, Fed, PeerEnded, Shut, Went, Failed, Replied, Listed, PostedAs, Settled, PlacedAs, LocatedAs, StoppedAt, Written, Happened, Began, Died, Step}
 use Rattle.ti_jdwp.specs.SessionHolds.{posts, undoes, is_closed, is_done, suspends_it, resumes_by, resumes_it, once, Counts, owed, NothingStaysSuspended}
-use Rattle.ti_jdwp.proofs.Noting.{begins_keep, keeps, stops_keep}
+use Rattle.ti_jdwp.proofs.Noting.{begins_keep, dies_ends, keeps, stops_keep}
 use Rattle.ti_jdwp.proofs.Balance.{Owns, goes, free_own}
 
 never : {X : Type 0} → false ≡ true → X
@@ -586,6 +586,10 @@ step_even old new (StoppedAt x v) t fine s = let k = stops_keep x v old new s in
 step_even old new (Written count) t fine s = stays old new t (ap (λ (x : Talk). x.holds) s) (ap (λ (x : Talk). x.phase) s) fine
 step_even old new (Happened e o result) t fine s = let k = keeps e o result old new s in stays old new t k.holds k.phase fine
 step_even old new (Began v result) t fine s = let k = begins_keep v result old new s in stays old new t k.holds k.phase fine
+step_even old new (Died result) t fine s =
+    let k = dies_ends result old new s in
+    let out = closing_out old.phase t in
+    still old new t (closing old.phase) k.holds k.phase out.0 (λ k. fine.zero (sym out.1 ∙ k)) (λ k. fine.free (sym out.2 ∙ k)) fine
 
 -- a run from a state
 pub record Ran (old end : Talk) (t suspended resumed : ℕ) : Type 0 where

@@ -34,9 +34,9 @@ use Rattle.ti_jdwp.specs.Queues.{Queue, may_tell, first, without_first}
 use Rattle.ti_jdwp.specs.Requests.{request_in}
 use Rattle.ti_jdwp.specs.Talks.{Talk, opened, data_of, replied, stopped, starved, greeted}
 use Rattle.ti_jdwp.specs.Steps.{Does, EndsBy, SuspendsBy, SuspendsNext, ResumesNext, tells, finishes, is_all, BeginsEvent, said_in, refused, Puts, PutsRead, PutsInForce, SetsFor, SetsRead, SetsEvent, asks, ServesBy, ServesRead, ReadsBy, GoesOnWith, GoesIn, writes_first, GoesFirst}
-use Rattle.ti_jdwp.specs.SessionRuns.{Call, Fed, PeerEnded, Shut, Went, Failed, Replied, Listed, PostedAs, Settled, PlacedAs, LocatedAs, StoppedAt, Written, Happened, Began, Step, Runs}
+use Rattle.ti_jdwp.specs.SessionRuns.{Call, Fed, PeerEnded, Shut, Went, Failed, Replied, Listed, PostedAs, Settled, PlacedAs, LocatedAs, StoppedAt, Written, Happened, Began, Died, Step, Runs}
 use Rattle.ti_jdwp.specs.SessionStops.{is_telling, is_resuming, is_stop, tells_event, stops_all, resumes_all, stands_after, AreAlone, NoEventWhileStopped}
-use Rattle.ti_jdwp.proofs.Noting.{begins_keep, keeps, stops_keep}
+use Rattle.ti_jdwp.proofs.Noting.{begins_keep, dies_ends, keeps, stops_keep}
 
 never : {X : Type 0} → false ≡ true → X
 never h = absurd (true≢false (sym h))
@@ -512,6 +512,7 @@ step_gated old new (StoppedAt x v) free s = let k = stops_keep x v old new s in 
 step_gated old new (Written count) free s = same old new (Written count) refl (ap (λ (x : Talk). x.notice) s) (ap (λ (x : Talk). x.queue.stopped) s) free
 step_gated old new (Happened e o result) free s = let k = keeps e o result old new s in same old new (Happened e o result) refl k.notice k.stopped free
 step_gated old new (Began v result) free s = let k = begins_keep v result old new s in same old new (Began v result) refl k.notice k.stopped free
+step_gated old new (Died result) free s = let k = dies_ends result old new s in same old new (Died result) refl k.notice k.stopped free
 
 -- an event that goes out is there
 told_some : (t : Talk) (c : Call) → tells_event t c ≡ true → is_some t.notice ≡ true
@@ -530,6 +531,7 @@ told_some t (StoppedAt x v) h = never h
 told_some t (Written count) h = never h
 told_some t (Happened e o result) h = never h
 told_some t (Began v result) h = never h
+told_some t (Died result) h = never h
 
 not_both : (b : Bool) (stop : Bool) → (b ≡ true → stop ≡ true) → stop ≡ false → b ≡ false
 not_both true stop h k = absurd (true≢false (sym (h refl) ∙ k))

@@ -48,9 +48,9 @@ use Rattle.ti_jdwp.specs.StopNotes.{stop_for, StopsBy, StopsIn}
 use Rattle.ti_jdwp.specs.Stops.{nowhere}
 use Rattle.ti_jdwp.specs.Talks.{Talk, opened, data_of, replied, stopped, starved, greeted, after, closing}
 use Rattle.ti_jdwp.specs.Steps.{Does, EndsBy, SuspendsBy, SuspendsNext, ResumesNext, tells, told_by, finishes, is_all, BeginsEvent, said_in, refused, Puts, PutsRead, PutsInForce, SetsFor, SetsRead, SetsEvent, clears, suspended_reply, asks, ServesBy, ServesRead, ReadsBy, GoesOnWith, GoesIn, writes_first, GoesFirst}
-use Rattle.ti_jdwp.specs.SessionRuns.{Call, Fed, PeerEnded, Shut, Went, Failed, Replied, Listed, PostedAs, Settled, PlacedAs, LocatedAs, StoppedAt, Written, Happened, Began, Step, Runs}
+use Rattle.ti_jdwp.specs.SessionRuns.{Call, Fed, PeerEnded, Shut, Went, Failed, Replied, Listed, PostedAs, Settled, PlacedAs, LocatedAs, StoppedAt, Written, Happened, Began, Died, Step, Runs}
 use Rattle.ti_jdwp.specs.SessionLets.{waits_by, stopped_by, lets_go, let_go_by, waits_for, first_waits, waiting, StopsAreLetGo}
-use Rattle.ti_jdwp.proofs.Noting.{begins_keep, keeps, stops_keep}
+use Rattle.ti_jdwp.proofs.Noting.{begins_keep, dies_ends, keeps, stops_keep}
 
 never : {X : Type 0} → false ≡ true → X
 never h = absurd (true≢false (sym h))
@@ -590,6 +590,7 @@ step old new (StoppedAt x v) idle s =
 step old new (Written count) idle s = keep old new old.phase (ap (λ (x : Talk). x.phase) s) idle (ap (λ (x : Talk). x.notice) s) (ap (λ (x : Talk). x.queue.waiting) s)
 step old new (Happened e o result) idle s = let k = keeps e o result old new s in same old new old.phase k.phase idle k.notice (notes (is_over old.phase) result e o old new s)
 step old new (Began v result) idle s = let k = begins_keep v result old new s in same old new old.phase k.phase idle k.notice (start_notes (is_over old.phase) result v old new s)
+step old new (Died result) idle s = let k = dies_ends result old new s in keep old new (closing old.phase) k.phase (λ h. closes old.phase (idle h)) k.notice k.waiting
 
 runs : (old end : Talk) (calls : List Call) (sent : List ℕ) → Idle old → Runs old calls sent end → waiting old ++ flat_map stopped_by calls ≡ flat_map let_go_by calls ++ waiting end
 runs old end [] sent idle run = append-nil (waiting old) ∙ ap (λ (x : Talk). waiting x) run.0

@@ -1,15 +1,16 @@
 -- An event that takes place changes what is kept of events alone.
 use Rattle.std.proofs.Common.{◌≡◌, ℕ, Bool, true, false, List, [], ◌∷◌, filter, refl, sym, subst, inl, inr}
 use Rattle.ti_jdwp.specs.declared.event.Event.{Event}
+use Rattle.ti_jdwp.specs.declared.event.Event.TheVariants as event
 use Rattle.ti_jdwp.specs.declared.event.Spot.{Spot}
 use Rattle.ti_jdwp.specs.declared.event_text.Occurrence.{Occurrence}
 use Rattle.ti_jdwp.specs.declared.stops.Verdict.{Verdict}
 use Rattle.ti_jdwp.specs.declared.stops.Verdict.TheVariants as verdict
 use Rattle.ti_jdwp.specs.InForce.{Asked, is_told, all_after}
 use Rattle.ti_jdwp.specs.Queues.{Queue, with_event, with_loss}
-use Rattle.ti_jdwp.specs.Notes.{is_over, queue_with, noted, start_notice, BeginsIn, Begins, NotesIn, Notes}
+use Rattle.ti_jdwp.specs.Notes.{is_over, queue_with, noted, start_notice, tells_end, winds_up, hears_end, BeginsIn, Begins, DiesIn, Dies, NotesIn, Notes}
 use Rattle.ti_jdwp.specs.StopNotes.{after_stop, stop_for, StopsBy, StopsIn, Stops}
-use Rattle.ti_jdwp.specs.Talks.{Talk}
+use Rattle.ti_jdwp.specs.Talks.{Talk, closing}
 
 pub record Keeps (old new : Talk) : Type 0 where
   pub bytes : new.bytes ≡ old.bytes
@@ -60,3 +61,25 @@ stops_keep_in false s old new v h = stops_keep_by v s old new h
 
 pub stops_keep : (s : Spot) (v : Verdict) (old new : Talk) → Stops s old v new → Keeps old new
 stops_keep s v old new h = stops_keep_in (is_over old.phase) s old new v h
+
+-- what the end of the runtime leaves
+pub record Ends (old new : Talk) : Type 0 where
+  pub phase : new.phase ≡ closing old.phase
+  pub holds : new.holds ≡ old.holds
+  pub notice : new.notice ≡ old.notice
+  pub stopped : new.queue.stopped ≡ old.queue.stopped
+  pub waiting : new.queue.waiting ≡ old.queue.waiting
+
+ends_as : (old new target : Talk) → new ≡ target → Ends old target → Ends old new
+ends_as old new target is h = subst (λ t. Ends old t) (sym is) h
+
+dies_ends_in : (b result : Bool) (old new : Talk) → DiesIn b old result new → Ends old new
+dies_ends_in true true old new h = ends_as old new (tells_end (winds_up old)) h (record { phase = refl; holds = refl; notice = refl; stopped = refl; waiting = refl })
+dies_ends_in true false old new h = elim h [
+  | inl a ↦ ends_as old new (record (winds_up old) { queue = with_loss old.queue }) a (record { phase = refl; holds = refl; notice = refl; stopped = refl; waiting = refl })
+  | inr a ↦ ends_as old new (record (winds_up old) { requests = all_after event.VmDeath old.requests; queue = with_loss old.queue }) a (record { phase = refl; holds = refl; notice = refl; stopped = refl; waiting = refl })
+]
+dies_ends_in false result old new h = ends_as old new (winds_up old) h.1 (record { phase = refl; holds = refl; notice = refl; stopped = refl; waiting = refl })
+
+pub dies_ends : (result : Bool) (old new : Talk) → Dies old result new → Ends old new
+dies_ends result old new h = dies_ends_in (hears_end old.phase) result old new h

@@ -34,13 +34,14 @@ use Rattle.ti_jdwp.specs.Errors.{number_of}
 use Rattle.ti_jdwp.specs.Fields.{int}
 use Rattle.ti_jdwp.specs.Holds.{count_of}
 use Rattle.ti_jdwp.specs.Lines.{Bytes, with_reply, handshake}
+use Rattle.ti_jdwp.specs.Notes.{DiesIn, end_body, end_numbers, hears_end}
 use Rattle.ti_jdwp.specs.Plans.{plan_of}
 use Rattle.ti_jdwp.specs.Queues.{may_tell, first, without_first}
 use Rattle.ti_jdwp.specs.Requests.{request_in}
 use Rattle.ti_jdwp.specs.Sent.{event_packet}
 use Rattle.ti_jdwp.specs.Talks.{Talk, opened, IsFront, data_of, replied, stopped, starved, greeted, after, closing}
 use Rattle.ti_jdwp.specs.Steps.{Does, EndsBy, SuspendsBy, SuspendsNext, ResumesNext, tells, finishes, BeginsEvent, said_in, refused, Puts, PutsRead, PutsInForce, SetsFor, SetsRead, SetsEvent, asks, ServesBy, ServesRead, ReadsBy, GoesOnWith, GoesIn, writes_first, GoesFirst, is_ready, Fails}
-use Rattle.ti_jdwp.specs.SessionRuns.{Call, Fed, PeerEnded, Shut, Went, Failed, Replied, Listed, PostedAs, Settled, PlacedAs, LocatedAs, StoppedAt, Written, Happened, Began, Step, received, taken, Runs, RequestsAreAnswered}
+use Rattle.ti_jdwp.specs.SessionRuns.{Call, Fed, PeerEnded, Shut, Went, Failed, Replied, Listed, PostedAs, Settled, PlacedAs, LocatedAs, StoppedAt, Written, Happened, Began, Died, Step, received, taken, Runs, RequestsAreAnswered}
 use Rattle.ti_jdwp.proofs.Noting.{begins_keep, keeps, stops_keep}
 use Rattle.ti_jdwp.proofs.Pieces.{Stands, stands_more, Goes-well, quietly, comes, goes_out, replies, passes, and_then}
 use Rattle.ti_jdwp.proofs.Pieces as pieces
@@ -521,6 +522,20 @@ fails_well old new h s = elim (cases_Bool (is_ready old.phase)) [
   | inr no' ↦ let is = s.1 no' in kept old new old.phase (ap (λ (t : Talk). t.bytes) is) (ap (λ (t : Talk). t.first) is) (ap (λ (t : Talk). t.phase) is) h
 ]
 
+-- the end of the runtime is told, or lost
+dies_well : (b result : Bool) (old new : Talk) → DiesIn b old result new → Well old.bytes new [] []
+dies_well true true old new is =
+    let body = end_body (end_numbers old.requests.list) in
+    record {
+      goes = subst (λ b. Goes-well old.bytes b [] []) (sym (ap (λ (t : Talk). t.bytes) is)) (pieces.tells old.bytes old.told body (event_packet old.told body) refl);
+      works = λ h. never (sym (ap works (ap (λ (t : Talk). t.phase) is) ∙ closing_idle old.phase) ∙ h);
+    }
+dies_well true false old new h = elim h [
+  | inl a ↦ idle old new (closing old.phase) (ap (λ (t : Talk). t.bytes) a) (ap (λ (t : Talk). t.phase) a) (closing_idle old.phase)
+  | inr a ↦ idle old new (closing old.phase) (ap (λ (t : Talk). t.bytes) a) (ap (λ (t : Talk). t.phase) a) (closing_idle old.phase)
+]
+dies_well false result old new h = idle old new (closing old.phase) (ap (λ (t : Talk). t.bytes) h.1) (ap (λ (t : Talk). t.phase) h.1) (closing_idle old.phase)
+
 step_well : (old new : Talk) (c : Call) → Works old → Step old c new → Well old.bytes new (received c) (taken old c)
 step_well old new (Fed bytes) h s =
     subst (λ t. Well old.bytes t bytes []) (sym s.1)
@@ -541,6 +556,7 @@ step_well old new (Written count) h s =
     (record { goes = goes_out old.bytes (min count (length old.bytes.output)); works = h })
 step_well old new (Happened e o result) h s = let k = keeps e o result old new s in kept old new old.phase k.bytes k.first k.phase h
 step_well old new (Began v result) h s = let k = begins_keep v result old new s in kept old new old.phase k.bytes k.first k.phase h
+step_well old new (Died result) h s = dies_well (hears_end old.phase) result old new s
 
 run_well : (old end : Talk) (calls : List Call) (sent : List ℕ) → Works old → Runs old calls sent end → Goes-well old.bytes end.bytes (flat_map received calls) sent
 run_well old end [] sent h run =

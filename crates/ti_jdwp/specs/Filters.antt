@@ -14,13 +14,25 @@ event_kind (event.Breakpoint s) = kind.Breakpoint
 event_kind (event.ThreadStart thread) = kind.ThreadStart
 event_kind (event.ThreadDeath thread) = kind.ThreadDeath
 event_kind (event.ClassPrepare thread class signature) = kind.ClassPrepare
+event_kind event.VmDeath = kind.VmDeath
 
+-- the thread at which it took place, or 0
 abbrev pub event_thread : Event → ℕ
 event_thread (event.SingleStep s) = s.thread
 event_thread (event.Breakpoint s) = s.thread
 event_thread (event.ThreadStart thread) = thread
 event_thread (event.ThreadDeath thread) = thread
 event_thread (event.ClassPrepare thread class signature) = thread
+event_thread event.VmDeath = 0
+
+-- the end of the runtime takes place at no thread
+abbrev pub is_event_at : Event → ℕ → Bool
+is_event_at (event.SingleStep s) t = s.thread == t
+is_event_at (event.Breakpoint s) t = s.thread == t
+is_event_at (event.ThreadStart thread) t = thread == t
+is_event_at (event.ThreadDeath thread) t = thread == t
+is_event_at (event.ClassPrepare thread class signature) t = thread == t
+is_event_at event.VmDeath t = false
 
 abbrev pub is_event_of : Event → ℕ → Bool
 is_event_of (event.SingleStep s) c = s.class == c
@@ -28,6 +40,7 @@ is_event_of (event.Breakpoint s) c = s.class == c
 is_event_of (event.ThreadStart thread) c = false
 is_event_of (event.ThreadDeath thread) c = false
 is_event_of (event.ClassPrepare thread class signature) c = class == c
+is_event_of event.VmDeath c = false
 
 abbrev inner : List ℕ → List ℕ
 inner signature = drop 1 (take (length signature - 1) signature)
@@ -39,6 +52,7 @@ event_name (event.Breakpoint s) = inner s.signature
 event_name (event.ThreadStart thread) = []
 event_name (event.ThreadDeath thread) = []
 event_name (event.ClassPrepare thread class signature) = inner signature
+event_name event.VmDeath = []
 
 -- a star, 42, at the beginning or at the end stands for any bytes
 abbrev pub is_match : List ℕ → List ℕ → Bool
@@ -48,7 +62,7 @@ is_match pattern name =
     else bytes_eq name pattern)
 
 abbrev pub passes : Event → Filter → Bool
-passes e (filter.Thread thread) = event_thread e == thread
+passes e (filter.Thread thread) = is_event_at e thread
 passes e (filter.Class class) = is_event_of e class
 passes e (filter.Matches pattern) = is_match pattern (event_name e)
 passes e (filter.Excludes pattern) = not (is_match pattern (event_name e))

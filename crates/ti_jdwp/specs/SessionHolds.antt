@@ -8,7 +8,7 @@ use Rattle.ti_jdwp.specs.declared.actions.Posted.{Posted}
 use Rattle.ti_jdwp.specs.declared.actions.Posted.TheVariants as posted
 use Rattle.ti_jdwp.specs.Holds.{is_own}
 use Rattle.ti_jdwp.specs.Talks.{Talk, opened}
-use Rattle.ti_jdwp.specs.SessionRuns.{Call, Fed, PeerEnded, Shut, Went, Failed, Replied, Listed, PostedAs, Settled, PlacedAs, LocatedAs, StoppedAt, Written, Happened, Began, Step}
+use Rattle.ti_jdwp.specs.SessionRuns.{Call, Fed, PeerEnded, Shut, Went, Failed, Replied, Listed, PostedAs, Settled, PlacedAs, LocatedAs, StoppedAt, Written, Happened, Began, Died, Step}
 
 -- the driver posts a suspension of this thread
 abbrev pub posts : Phase → ℕ → Bool
@@ -95,6 +95,7 @@ suspends_it t old (StoppedAt x v) = false
 suspends_it t old (Written count) = false
 suspends_it t old (Happened e o result) = false
 suspends_it t old (Began v result) = false
+suspends_it t old (Died result) = false
 
 abbrev pub resumes_by : ℕ → Action → Bool
 resumes_by t action.Again = false
@@ -127,6 +128,7 @@ resumes_it t (StoppedAt x v) = false
 resumes_it t (Written count) = false
 resumes_it t (Happened e o result) = false
 resumes_it t (Began v result) = false
+resumes_it t (Died result) = false
 
 abbrev pub once : Bool → ℕ
 once b = if b then 1 else 0

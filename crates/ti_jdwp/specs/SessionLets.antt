@@ -7,7 +7,7 @@ use Rattle.ti_jdwp.specs.declared.notice.Notice.{Notice}
 use Rattle.ti_jdwp.specs.declared.stops.Verdict.{Verdict}
 use Rattle.ti_jdwp.specs.declared.stops.Verdict.TheVariants as verdict
 use Rattle.ti_jdwp.specs.Talks.{Talk, opened}
-use Rattle.ti_jdwp.specs.SessionRuns.{Call, Fed, PeerEnded, Shut, Went, Failed, Replied, Listed, PostedAs, Settled, PlacedAs, LocatedAs, StoppedAt, Written, Happened, Began, Runs}
+use Rattle.ti_jdwp.specs.SessionRuns.{Call, Fed, PeerEnded, Shut, Went, Failed, Replied, Listed, PostedAs, Settled, PlacedAs, LocatedAs, StoppedAt, Written, Happened, Began, Died, Runs}
 
 abbrev pub waits_by : Verdict → ℕ → List ℕ
 waits_by verdict.Told thread = thread ∷ []
@@ -31,6 +31,7 @@ stopped_by (StoppedAt x v) = waits_by v x.thread
 stopped_by (Written count) = []
 stopped_by (Happened e o result) = []
 stopped_by (Began v result) = []
+stopped_by (Died result) = []
 
 abbrev pub lets_go : Action → List ℕ
 lets_go action.Again = []
@@ -63,6 +64,7 @@ let_go_by (StoppedAt x v) = []
 let_go_by (Written count) = []
 let_go_by (Happened e o result) = []
 let_go_by (Began v result) = []
+let_go_by (Died result) = []
 
 -- the thread that waits for a notice
 abbrev pub waits_for : Notice → List ℕ

@@ -12,7 +12,7 @@ use Rattle.ti_jdwp.specs.declared.stops.Standing.{Standing}
 use Rattle.ti_jdwp.specs.declared.stops.Verdict.{Verdict}
 use Rattle.ti_jdwp.specs.Answered.{is_asked, listed_in, settled_in, placed_in, located_in, PostedIn}
 use Rattle.ti_jdwp.specs.Lines.{with_written, handshake}
-use Rattle.ti_jdwp.specs.Notes.{Begins, Notes}
+use Rattle.ti_jdwp.specs.Notes.{Begins, Dies, Notes}
 use Rattle.ti_jdwp.specs.Packets.{BeginsWith}
 use Rattle.ti_jdwp.specs.Sent.{reply_packet, event_packet}
 use Rattle.ti_jdwp.specs.Steps.{Goes, Fails}
@@ -39,6 +39,8 @@ pub data Call : Type 0 where
   Happened : Event → Occurrence → Bool → Call
   -- the runtime began with a thread, which was noted or lost
   Began : ℕ → Bool → Call
+  -- the runtime ended, which was told or lost
+  Died : Bool → Call
 
 -- what the contracts of the calls say
 abbrev pub Step : Talk → Call → Talk → Type 0
@@ -57,6 +59,7 @@ Step old (StoppedAt s verdict) new = Stops s old verdict new
 Step old (Written count) new = new ≡ record old { bytes = with_written old.bytes count }
 Step old (Happened e o result) new = Notes e o old result new
 Step old (Began thread result) new = Begins thread old result new
+Step old (Died result) new = Dies old result new
 
 -- the bytes that a call took from the socket
 abbrev pub received : Call → List ℕ
@@ -75,6 +78,7 @@ received (StoppedAt x v) = []
 received (Written count) = []
 received (Happened e o result) = []
 received (Began thread result) = []
+received (Died result) = []
 
 -- the bytes that the socket took with a call
 abbrev pub taken : Talk → Call → List ℕ
@@ -93,6 +97,7 @@ taken t (StoppedAt x v) = []
 taken t (Written count) = take (min count (length t.bytes.output)) t.bytes.output
 taken t (Happened e o result) = []
 taken t (Began thread result) = []
+taken t (Died result) = []
 
 -- these calls in this order, with all that the socket took
 abbrev pub Runs : Talk → List Call → List ℕ → Talk → Type 0

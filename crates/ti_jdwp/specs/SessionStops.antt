@@ -8,7 +8,7 @@ use Rattle.ti_jdwp.specs.declared.notice.Notice.{Notice}
 use Rattle.ti_jdwp.specs.Holds.{held_of}
 use Rattle.ti_jdwp.specs.Steps.{is_all}
 use Rattle.ti_jdwp.specs.Talks.{Talk, opened}
-use Rattle.ti_jdwp.specs.SessionRuns.{Call, Fed, PeerEnded, Shut, Went, Failed, Replied, Listed, PostedAs, Settled, PlacedAs, LocatedAs, StoppedAt, Written, Happened, Began, Runs}
+use Rattle.ti_jdwp.specs.SessionRuns.{Call, Fed, PeerEnded, Shut, Went, Failed, Replied, Listed, PostedAs, Settled, PlacedAs, LocatedAs, StoppedAt, Written, Happened, Began, Died, Runs}
 
 abbrev pub is_event : Purpose → Bool
 is_event purpose.One = false
@@ -61,7 +61,7 @@ abbrev pub is_stop : Option Notice → Bool
 is_stop None = false
 is_stop (Some n) = is_all n.policy
 
--- with this call an event goes out
+-- with this call an event goes out, other than the end of the runtime, which is told in any case
 abbrev pub tells_event : Talk → Call → Bool
 tells_event t (Fed bytes) = false
 tells_event t PeerEnded = false
@@ -78,6 +78,7 @@ tells_event t (StoppedAt x v) = false
 tells_event t (Written count) = false
 tells_event t (Happened e o result) = false
 tells_event t (Began v result) = false
+tells_event t (Died result) = false
 
 -- and it stopped all threads
 abbrev pub stops_all : Talk → Call → Bool
@@ -100,6 +101,7 @@ resumes_all old (StoppedAt x v) new = false
 resumes_all old (Written count) new = false
 resumes_all old (Happened e o result) new = false
 resumes_all old (Began v result) new = false
+resumes_all old (Died result) new = false
 
 -- whether all threads stand by an event after this call
 abbrev pub stands_after : Bool → Talk → Call → Talk → Bool

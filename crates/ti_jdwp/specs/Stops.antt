@@ -70,6 +70,7 @@ is_for (event.Breakpoint s) t = s.breakpoint && is_place s t
 is_for (event.ThreadStart thread) t = true
 is_for (event.ThreadDeath thread) t = true
 is_for (event.ClassPrepare thread class signature) t = true
+is_for event.VmDeath t = true
 
 abbrev bound_by : Depth → ℕ → ℕ
 bound_by depth.Into frames = 0

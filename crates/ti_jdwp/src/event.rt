@@ -118,6 +118,8 @@ pub(crate) enum Event {
         class: u32,
         signature: Text,
     },
+    /// The runtime ends.
+    VmDeath,
 }
 
 impl Event {
@@ -149,10 +151,11 @@ impl Event {
             Event::ThreadStart(_) => EventKind::ThreadStart,
             Event::ThreadDeath(_) => EventKind::ThreadDeath,
             Event::ClassPrepare { .. } => EventKind::ClassPrepare,
+            Event::VmDeath => EventKind::VmDeath,
         }
     }
 
-    /// The thread at which it took place.
+    /// The thread at which it took place; 0 if it did at none.
     pub(crate) fn thread(&self) -> u32
         ensures { result ≡ event_thread self.now }
     {
@@ -162,6 +165,17 @@ impl Event {
             Event::ThreadStart(thread) => *thread,
             Event::ThreadDeath(thread) => *thread,
             Event::ClassPrepare { thread, .. } => *thread,
+            Event::VmDeath => 0,
+        }
+    }
+
+    /// Whether it took place at this thread.
+    fn is_at(&self, thread: u32) -> bool
+        ensures { result ≡ is_event_at self.now thread }
+    {
+        match self {
+            Event::VmDeath => false,
+            _ => self.thread() == thread,
         }
     }
 
@@ -189,7 +203,7 @@ impl Event {
     }
 
     /// The name of the class with `/` between its parts: the signature without its first byte, `L`, and its last, `;`. An event
-    /// of a thread has an empty name.
+    /// without a class has an empty name.
     fn name(&self) -> &[u8]
         ensures { result.now ≡ event_name self.now }
     {
@@ -244,7 +258,7 @@ impl Filter {
         ensures { result ≡ passes event.now self.now }
     {
         match self {
-            Filter::Thread(thread) => event.thread() == *thread,
+            Filter::Thread(thread) => event.is_at(*thread),
             Filter::Class(class) => event.is_of(*class),
             Filter::Matches(pattern) => is_match(pattern.as_slice(), event.name()),
             Filter::Excludes(pattern) => !is_match(pattern.as_slice(), event.name()),
@@ -261,7 +275,7 @@ pub(crate) fn all_pass(filters: &[Filter], event: &Event) -> bool
 
 ghost use Rattle.std.specs.Prelude.{◌≡◌, ◌-◌, length, take, drop, IfOk, IfErr};
 ghost use Rattle.std.specs.List.{list_all};
-ghost use Rattle.ti_jdwp.specs.Filters.{event_kind, event_thread, is_event_of, event_name, is_match, passes};
+ghost use Rattle.ti_jdwp.specs.Filters.{event_kind, event_thread, is_event_at, is_event_of, event_name, is_match, passes};
 ghost use Rattle.ti_jdwp.specs.Stops.{is_same_line, spot_of, is_place, is_end, is_done, has_moved, is_for};
 ghost use Rattle.ti_jdwp.specs.declared.error.JdwpError.TheVariants.{OutOfMemory};
 ghost use Rattle.ti_jdwp.specs.declared.event.Event.TheVariants.{ClassPrepare};

@@ -5,7 +5,7 @@
 //!
 //! - Each request gets one reply, with its id, in the order of the requests.
 //! - What the debugger suspended is resumed before the connection closes.
-//! - After an event that stopped all threads no other goes out until all are resumed.
+//! - After an event that stopped all threads no other goes out until all are resumed, but for the end of the runtime.
 //! - Each thread that stopped is let go once its stop was told.
 #![tactic(auto)]
 

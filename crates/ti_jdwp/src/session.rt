@@ -154,6 +154,13 @@ impl Session {
         ensures { self.new ≡ closed self.old }
     {
         self.gone = true;
+        self.wind_up();
+    }
+
+    /// Nothing is read or answered any more.
+    pub(crate) fn wind_up(&mut self)
+        ensures { self.new ≡ record self.old { phase = closing self.old.phase } }
+    {
         self.phase = match self.phase {
             Phase::Suspending { thread, .. } => Phase::Suspending {
                 purpose: Purpose::End,
@@ -198,5 +205,5 @@ ghost use Rattle.std.specs.Prelude.{◌≡◌, ◌≤◌, ◌<◌, true, length,
 ghost use Rattle.ti_jdwp.specs.Holds.{count_of};
 ghost use Rattle.ti_jdwp.specs.Lines.{with_written};
 ghost use Rattle.ti_jdwp.specs.Sent.{answered};
-ghost use Rattle.ti_jdwp.specs.Talks.{opened, room_in, fed, closed, replied, data_of};
+ghost use Rattle.ti_jdwp.specs.Talks.{opened, room_in, fed, closing, closed, replied, data_of};
 ghost use Rattle.ti_jdwp.specs.declared.session_error.SessionError.TheVariants.{OutOfMemory};

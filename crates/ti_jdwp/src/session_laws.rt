@@ -15,7 +15,7 @@ pub fn nothing_stays_suspended()
 {}
 
 /// Whatever calls come, in whatever order: between an event that stopped all threads and a resumption of all no other event goes
-/// out. All are resumed where a request to resume all is answered, or the debugger suspends no thread any more.
+/// out, but for the end of the runtime. All are resumed where a request to resume all is answered, or the debugger suspends no thread any more.
 pub fn no_event_while_stopped()
     ensures { NoEventWhileStopped }
 {}

@@ -118,7 +118,10 @@ fn stop_of(alloc: Global, at: &Stopped<'_>, told: &StopTold) -> Result<Notice, J
     })
 }
 
-fn add_rows<'a>(rows: &mut Vec<EventRow<'a>>, more: &[EventRow<'a>]) -> Result<(), JdwpError>
+pub(crate) fn add_rows<'a>(
+    rows: &mut Vec<EventRow<'a>>,
+    more: &[EventRow<'a>],
+) -> Result<(), JdwpError>
     ensures ok { OnOk result (rows.new.items ≡ rows.old.items ++ more.now) }
     ensures memory { IfErr result (λ e. e ≡ OutOfMemory) }
 {
