@@ -168,15 +168,16 @@ pub fn capabilities_body(alloc: Global) -> Result<Vec<u8>, JdwpError>
     Ok(out)
 }
 
-/// The capabilities (1/17): 32 of them, and none but maybe the 11th, canPopFrames.
+/// The capabilities (1/17): 32 of them, and none but the 14th, canRequestVMDeathEvent, and maybe the 11th, canPopFrames.
 pub fn new_capabilities_body(alloc: Global, can_pop_frames: bool) -> Result<Vec<u8>, JdwpError>
-    ensures ok { IfOk result (λ v. v.items ≡ replicate 10 0 ++ flag can_pop_frames ∷ replicate 21 0) }
+    ensures ok { IfOk result (λ v. v.items ≡ replicate 10 0 ++ flag can_pop_frames ∷ 0 ∷ 0 ∷ 1 ∷ replicate 18 0) }
     ensures memory { IfErr result (λ e. e ≡ OutOfMemory) }
 {
     let mut out = Vec::new(alloc);
     out.extend_from_slice(&[0; 10])?;
     put_byte(&mut out, u8::from(can_pop_frames))?;
-    out.extend_from_slice(&[0; 21])?;
+    out.extend_from_slice(&[0, 0, 1])?;
+    out.extend_from_slice(&[0; 18])?;
     Ok(out)
 }
 
