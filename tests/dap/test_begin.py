@@ -1,8 +1,10 @@
 """How sessions begin and end: attach, launch, disconnect, and what is refused."""
+import contextlib
 import os
 import pathlib
 import socket
 import tempfile
+import threading
 import time
 
 import places
@@ -70,6 +72,34 @@ class Attach(Case):
         self.refuses("pathFormat", client.initialize, pathFormat="uri")
 
 
+class Between:
+    """Between a debugger and a runtime. All goes through, and `say` puts in what the runtime does not say."""
+
+    def __init__(self, port):
+        self.listener = socket.create_server(("127.0.0.1", 0))
+        self.port = self.listener.getsockname()[1]
+        self.runtime = socket.create_connection(("127.0.0.1", port))
+        threading.Thread(target=self._run, daemon=True).start()
+
+    def _run(self):
+        self.debugger = self.listener.accept()[0]
+        threading.Thread(target=self._pass_on, args=(self.debugger, self.runtime), daemon=True).start()
+        self._pass_on(self.runtime, self.debugger)
+
+    @staticmethod
+    def _pass_on(source, target):
+        with contextlib.suppress(OSError):
+            while data := source.recv(65536):
+                target.sendall(data)
+
+    def say(self, packet):
+        self.debugger.sendall(packet)
+
+    def end(self):
+        for one in self.listener, self.runtime, self.debugger:
+            one.close()
+
+
 class End(Case):
     def program_ends(self):
         client = self.client()
@@ -81,6 +111,25 @@ class End(Case):
 
     def test_the_program_ends(self):
         self.program_ends()
+
+    def test_the_last_thread_is_told_to_have_ended(self):
+        with places.running("ends.lua") as host:
+            client = self.client()
+            client.begin("attach", port=host.port)
+            client.wait("thread", reason="exited")
+            client.wait("terminated")
+            client.ask("disconnect")
+
+    def test_the_runtime_says_that_it_ends(self):
+        """That is enough, although the connection stays open."""
+        with places.running("waits.lua", suspended=False) as host:
+            between, client = Between(host.port), self.client()
+            self.addCleanup(between.end)
+            client.begin("attach", port=between.port)
+            between.say(bytes.fromhex("00000015 00000000 00 40 64 00 00000001 63 00000000"))
+            client.wait("terminated")
+            self.assertEqual(client.threads(), {})
+            client.ask("disconnect")
 
     def test_disconnect_resumes_what_was_stopped(self):
         """The next client finds the thread running, and stops it again."""

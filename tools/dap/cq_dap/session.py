@@ -16,7 +16,7 @@ from .expressions import NoValue
 from .framing import BadMessage, Message, read_message
 from .inspector import Inspector
 from .jdwp import Class, Jdwp
-from .packets import BREAKPOINT, CLASS_PREPARE, STEP, THREAD_DEATH, THREAD_START, VM_START, Connection, Event, EventSet, Gone, JdwpError
+from .packets import BREAKPOINT, CLASS_PREPARE, STEP, THREAD_DEATH, THREAD_START, VM_DEATH, VM_START, Connection, Event, EventSet, Gone, JdwpError
 from .program import DEBUGGED, Program
 from .sources import Sources
 from .target import Target
@@ -264,6 +264,8 @@ class Session:
                 self.client.event("thread", reason="exited", threadId=event.thread)
             elif event.kind == CLASS_PREPARE:
                 self._class_came(Class(event.class_, event.signature))
+            elif event.kind == VM_DEATH:
+                self._closed(wire)
         if stops := [event for event in one.events if event.kind in (STEP, BREAKPOINT)]:
             self._stopped(one.policy, stops)
 
