@@ -55,6 +55,10 @@ class Programs(unittest.TestCase):
             self.ends_well(host, "Deferred")
             self.assertEqual((host.process.wait(PATIENCE), host.process.stdout.read()), (0, "loads\tall\n"))
 
+    def test_the_end_of_a_runtime(self):
+        with places.scripts("once", suspended=True) as host:
+            self.ends_well(host, "Last")
+
     def test_a_thousand_threads(self):
         with tempfile.TemporaryDirectory() as folder, places.many(folder) as host:
             self.run_at(host, "Many")

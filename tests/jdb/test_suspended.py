@@ -42,6 +42,12 @@ class FirstDebugger(unittest.TestCase):
         jdb.process.stdin.write(b"cont\n")
         jdb.process.stdin.flush()
 
+    def test_is_told_that_the_scripts_end(self):
+        with places.scripts("once", suspended=True) as host, attached(host) as jdb:
+            self.go_on(jdb)
+            self.assertIn("The application exited", jdb.read(None))
+            self.ends(host, ["once\t6"])
+
     def test_stops_in_files_that_are_loaded_later(self):
         files = ("required", "done", "loaded", "named", "yielded")
         with places.scripts("loads", suspended=True) as host, attached(host) as jdb:
