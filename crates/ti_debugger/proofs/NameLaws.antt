@@ -3,7 +3,7 @@ use Rattle.std.proofs.Common.{◌≡◌, ℕ, List, [], ◌∷◌, Option, Some,
 use Rattle.std.specs.List.{fold}
 use Rattle.ti_jdwp.specs.declared.actions.Action.{Action}
 use Rattle.ti_jdwp.specs.declared.actions.Action.TheVariants as action
-use Rattle.ti_jdwp.specs.SessionRuns.{Call, Fed, PeerEnded, Shut, Went, Failed, Replied, Listed, PostedAs, Settled, PlacedAs, LocatedAs, StoppedAt, Written, Happened, Began}
+use Rattle.ti_jdwp.specs.SessionRuns.{Call, Fed, PeerEnded, Shut, Went, Failed, Replied, Listed, PostedAs, Settled, PlacedAs, LocatedAs, StoppedAt, Written, Happened, Began, Died}
 use Rattle.ti_jdwp.specs.Talks.{Talk, data_of}
 use Rattle.ti_jdwp.specs.declared.request.Request.{Request}
 use Rattle.ti_jdwp.specs.declared.variables.Value.{Value}
@@ -87,6 +87,7 @@ given now t u d e (Written count) g = absurd g
 given now t u d e (StoppedAt x verdict) g = absurd g
 given now t u d e (Happened event occurrence is_told) g = absurd g
 given now t u d e (Began thread is_told) g = absurd g
+given now t u d e (Died is_told) g = absurd g
 
 given_on : (d given e : Desk) → DeskNames d given → e.objects ≡ given.objects → DeskNames d e
 given_on d given e names same = subst (λ (o : Objects). Names d.objects.list.items o.list.items) (sym same) names
@@ -107,6 +108,7 @@ served now t u v d e (Written count) s = absurd s.1
 served now t u v d e (StoppedAt x verdict) s = absurd s.1
 served now t u v d e (Happened event occurrence is_told) s = absurd s.1
 served now t u v d e (Began thread is_told) s = absurd s.1
+served now t u v d e (Died is_told) s = absurd s.1
 
 went : (now : ℕ) (t t' : Talk) (u u' : Option Due) (d f : Desk) (calls : List Call) → Path now t u d calls t' u' f → DeskNames d f
 went now t t' u u' d f [] p = same_of d f (ap (λ (x : Desk). x.objects) (sym p.2))

@@ -7,7 +7,7 @@ use Rattle.ti_jdwp.specs.declared.request.Request.{Request}
 use Rattle.ti_jdwp.specs.declared.session_error.SessionError.{SessionError}
 use Rattle.ti_jdwp.specs.declared.session_error.SessionError.TheVariants.{NotAsked}
 use Rattle.ti_jdwp.specs.Answered.{is_asked}
-use Rattle.ti_jdwp.specs.SessionRuns.{Call, Runs, taken, Fed, PeerEnded, Shut, Went, Failed, Replied, Listed, PostedAs, Settled, PlacedAs, LocatedAs, StoppedAt, Written, Happened, Began}
+use Rattle.ti_jdwp.specs.SessionRuns.{Call, Runs, taken, Fed, PeerEnded, Shut, Went, Failed, Replied, Listed, PostedAs, Settled, PlacedAs, LocatedAs, StoppedAt, Written, Happened, Began, Died}
 use Rattle.ti_jdwp.specs.Steps.{Goes, Fails}
 use Rattle.ti_jdwp.specs.Talks.{Talk, data_of, replied}
 use Rattle.ti_debugger.specs.declared.asked.Asked.TheVariants.{Nothing}
@@ -61,6 +61,7 @@ gives_serves now t u v d given e (Written count) gives none is = absurd gives
 gives_serves now t u v d given e (StoppedAt x verdict) gives none is = absurd gives
 gives_serves now t u v d given e (Happened event occurrence is_told) gives none is = absurd gives
 gives_serves now t u v d given e (Began thread is_told) gives none is = absurd gives
+gives_serves now t u v d given e (Died is_told) gives none is = absurd gives
 
 pub going_given : (now : ℕ) (x : Due) (t m : Talk) (u v : Option Due) (d given e : Desk) → u ≡ Some x → v ≡ None → Given {E = SessionError} now x t d m given (Ok true) → e ≡ record given { asked = Nothing }
     → Going now t u d m v e
@@ -100,6 +101,7 @@ agents now t u v d e (Written count) s = absurd s.1
 agents now t u v d e (StoppedAt x verdict) s = absurd s.1
 agents now t u v d e (Happened event occurrence is_told) s = absurd s.1
 agents now t u v d e (Began thread is_told) s = absurd s.1
+agents now t u v d e (Died is_told) s = absurd s.1
 
 path_runs : (now : ℕ) (t t' : Talk) (u u' : Option Due) (d f : Desk) (calls : List Call) → Path now t u d calls t' u' f → (list_all is_agents calls ≡ true) × Runs t calls [] t'
 path_runs now t t' u u' d f [] p = (refl, (p.0, refl))

@@ -2,7 +2,7 @@
 use Rattle.std.proofs.Common.{◌≡◌, ℕ, zero, suc, Bool, List, [], ◌∷◌, ◌++◌, Option, Some, None, slice_get, refl, sym, ap, subst, arith}
 use Rattle.std.specs.Prelude.{IsSomeAnd, string_bytes}
 use mathlib.Core.List.{IsPrefix}
-use Rattle.ti_jdwp.specs.SessionRuns.{Call, Step, taken, Fed, PeerEnded, Shut, Went, Failed, Replied, Listed, PostedAs, Settled, Written, Happened, Began, PlacedAs, LocatedAs, StoppedAt}
+use Rattle.ti_jdwp.specs.SessionRuns.{Call, Step, taken, Fed, PeerEnded, Shut, Went, Failed, Replied, Listed, PostedAs, Settled, Written, Happened, Began, Died, PlacedAs, LocatedAs, StoppedAt}
 use Rattle.ti_jdwp.specs.Talks.{Talk}
 use Rattle.ti_jdwp.specs.declared.event_text.Occurrence.{Occurrence}
 use Rattle.ti_methods.specs.Classes.{IsSignature}
@@ -49,6 +49,7 @@ follows_more log more n m occurrence.VmDeath is_noted pre is = absurd is
 by_more : (log more : List ClassInfo) (n m : ℕ) (c : Call) → IsPrefix log more → TellsBy log n c m → TellsBy more n c m
 by_more log more n m (Happened e o is_noted) pre is = follows_more log more n m o is_noted pre is
 by_more log more n m (Began t is_noted) pre is = absurd is
+by_more log more n m (Died is_noted) pre is = absurd is
 by_more log more n m (Fed bytes) pre is = absurd is
 by_more log more n m PeerEnded pre is = absurd is
 by_more log more n m Shut pre is = absurd is

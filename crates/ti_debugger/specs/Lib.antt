@@ -10,6 +10,7 @@ pub mod Sessions
 pub mod Kept
 pub mod Debuggers
 pub mod Opening
+pub mod Ending
 pub mod Refused
 pub mod Sources
 pub mod Told

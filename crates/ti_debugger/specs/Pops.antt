@@ -42,9 +42,9 @@ may_say_pops a pops = not pops || has_all a.home.service.cell.potential (needed_
 abbrev pub with_pops : AgentValue → Bool → AgentValue
 with_pops a pops = with_caps_of a (if pops then caps_with a.env.state.caps (needed_by call.Pop) else caps_without a.env.state.caps (needed_by call.Pop))
 
--- 32 capabilities, the 11th of which is canPopFrames
+-- 32 capabilities, the 11th of which is canPopFrames, and the 14th canRequestVMDeathEvent
 abbrev pub capabilities_text : Bool → List ℕ
-capabilities_text pops = replicate 10 0 ++ flag pops ∷ replicate 21 0
+capabilities_text pops = replicate 10 0 ++ flag pops ∷ 0 ∷ 0 ∷ 1 ∷ replicate 18 0
 
 -- what a reply says where the service refuses a pop
 abbrev pub pop_error : TiError → JdwpError

@@ -1,7 +1,7 @@
 -- What an agent does with its session between the socket's calls.
 use Rattle.std.specs.Prelude.{◌≡◌, Bool, true, false, List, []}
 use Rattle.std.specs.List.{list_all}
-use Rattle.ti_jdwp.specs.SessionRuns.{Call, Runs, Fed, PeerEnded, Shut, Went, Failed, Replied, Listed, PostedAs, Settled, Written, Happened, Began, PlacedAs, LocatedAs, StoppedAt}
+use Rattle.ti_jdwp.specs.SessionRuns.{Call, Runs, Fed, PeerEnded, Shut, Went, Failed, Replied, Listed, PostedAs, Settled, Written, Happened, Began, Died, PlacedAs, LocatedAs, StoppedAt}
 use Rattle.ti_jdwp.specs.Talks.{Talk}
 
 -- a call that an agent makes by itself
@@ -18,6 +18,7 @@ is_agents Settled = true
 is_agents (Written count) = false
 is_agents (Happened event occurrence is_told) = false
 is_agents (Began thread is_told) = false
+is_agents (Died is_told) = false
 is_agents (PlacedAs placed) = true
 is_agents (LocatedAs standing) = true
 is_agents (StoppedAt x verdict) = false

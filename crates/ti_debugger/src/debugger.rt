@@ -1,6 +1,7 @@
 //! The agent for debuggers, one after the other.
 
 use crate::about::About;
+use crate::asked::Asked;
 use crate::debugger_error::DebuggerError;
 use crate::desk::Desk;
 use crate::halting::tend_stops;
@@ -125,6 +126,20 @@ impl Debugger {
         seat.session.end();
         self.seat = Some(seat);
         Ok(())
+    }
+
+    /// Says that the runtime ends. The debugger is told by VM_DEATH, after what was told before it: call `tick` and `next` first, so that
+    /// ends of threads are told. No request is answered after it, and a question that is open is dropped. Go on with `next` until it gives
+    /// `Close`. Nothing happens if no debugger is connected, or its session ends.
+    pub fn runtime_ends(&mut self)
+        ensures { RuntimeEnds self.old self.new }
+    {
+        let Some(mut seat) = self.seat.take() else {
+            return;
+        };
+        let _it_counts_what_is_lost = seat.runtime_ends();
+        self.seat = Some(seat);
+        self.desk.asked = Asked::Nothing;
     }
 
     /// What the caller does next with the connection. Requests are answered here, and while a question is open none is: nothing changes.
@@ -285,6 +300,7 @@ ghost use Rattle.ti_service.specs.Leaving.{Disposes, StaysOn};
 ghost use Rattle.ti_service.specs.Memberships.{state_of};
 ghost use Rattle.ti_debugger.specs.Crowds.{NoneHeld, alive_in, first};
 ghost use Rattle.ti_debugger.specs.Debuggers.{Works};
+ghost use Rattle.ti_debugger.specs.Ending.{RuntimeEnds};
 ghost use Rattle.ti_debugger.specs.Opening.{Opens};
 ghost use Rattle.ti_debugger.specs.Questions.{question_in};
 ghost use Rattle.ti_debugger.specs.declared.asked.Asked.TheVariants.{Nothing};

@@ -55,6 +55,19 @@ impl Seat {
         }
     }
 
+    /// The session is told that the runtime ends. What it waited for is not due any more, but for a suspension that is still to be posted,
+    /// so that it can be undone. It gives whether the event is told or nobody hears; else it is lost, since there is no memory.
+    pub(crate) fn runtime_ends(&mut self) -> bool
+        ensures told { Dies self.old.session result self.new.session }
+        ensures due { self.new.due ≡ due_at_end self.old.due }
+    {
+        self.due = match self.due {
+            Some(Due::Post(thread)) => Some(Due::Post(thread)),
+            _ => None,
+        };
+        self.session.runtime_ends()
+    }
+
     /// What the caller does next. What the session asks for is done here, as far as it can be now. The error is lack of memory.
     pub(crate) fn next(&mut self, desk: &mut Desk, now: u64) -> Result<Todo, SessionError>
         ensures served { Serving now self.old.session self.old.due desk.old self.new.session self.new.due desk.new }
@@ -323,7 +336,9 @@ impl Seat {
 }
 
 ghost use Rattle.std.specs.Prelude.{◌≡◌, ℕ, true, None, is_some, string_bytes, IfNone, IfOk, IfSome};
+ghost use Rattle.ti_jdwp.specs.Notes.{Dies};
 ghost use Rattle.ti_debugger.specs.Crowds.{alive_in, first};
+ghost use Rattle.ti_debugger.specs.Ending.{due_at_end};
 ghost use Rattle.ti_debugger.specs.Desks.{Works};
 ghost use Rattle.ti_debugger.specs.Opening.{OpensAs};
 ghost use Rattle.ti_debugger.specs.Questions.{question_in};
