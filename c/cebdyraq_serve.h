@@ -131,6 +131,12 @@ uint32_t cq_door_written(cq_door *door, uint32_t connection, uint64_t count, uin
  * and what stops for it goes on, now or by cq_door_tick. CQ_NONE 303. */
 uint32_t cq_door_disconnect(cq_door *door, uint32_t connection);
 
+/* Says that the runtime ends. A debugger is told by VM_DEATH, behind what it is told already: call cq_door_tick and cq_door_next
+ * before, so that it is told of threads that have ended. Nothing is read or answered after it, and a question that is open is dropped.
+ * Then cq_door_next resumes what the debugger has suspended, and gives CQ_DOOR_CLOSE once all is written. Nothing happens at a door for
+ * HTTP. Since 2.4. */
+uint32_t cq_door_runtime_ends(cq_door *door);
+
 /* Does what is due: meets threads, reads stacks, counts, and answers; tells a debugger of events and stops, and undoes suspensions
  * and breakpoints that are not wanted any more. Writes to `deadline` when it is to be called next. Call cq_door_next after it. */
 uint32_t cq_door_tick(cq_door *door, uint64_t now, uint64_t *deadline) CQ_MUST_USE;
@@ -364,8 +370,9 @@ uint32_t cq_server_tell_classes(cq_server *server) CQ_MUST_USE;
  * serve. */
 uint32_t cq_server_port(const cq_server *server, uint16_t *port) CQ_MUST_USE;
 
-/* Ends the thread, closes all sockets, and disposes of the environment. Threads of the service go on meanwhile. All that a debugger
- * has suspended is resumed. If it has asked a thread to be suspended, and the thread has not answered, this waits until the thread
+/* Ends the thread, closes all sockets, and disposes of the environment. Threads of the service go on meanwhile. A debugger is told of
+ * what took place before, such as ends of threads, and by VM_DEATH that the runtime ends. It has 0.2 s to read that, and 0.05 s to close
+ * its end. All that it has suspended is resumed. If it has asked a thread to be suspended, and the thread has not answered, this waits until the thread
  * polls, so that thread does not call it. It is CQ_OK for a server that does not serve. CQ_OUT_OF_MEMORY 110, CQ_FULL 216: the
  * environment is not disposed of. Call again. */
 uint32_t cq_serve_end(cq_server *server);

@@ -173,6 +173,7 @@ static void tells_of_empty_handles(void) {
     SAME(cq_door_tells_variables(&none, true), CQ_MISUSED);
     SAME(cq_door_pops_frames(&none, true), CQ_MISUSED);
     SAME(cq_door_starts_suspended(&none, true), CQ_MISUSED);
+    SAME(cq_door_runtime_ends(&none), CQ_MISUSED);
     SAME(cq_door_question(&none, &question), CQ_MISUSED);
     SAME(cq_door_tell_variables(&none, NULL, 0, NULL, 0), CQ_MISUSED);
     SAME(cq_door_tell_values(&none, NULL, 0, NULL, 0), CQ_MISUSED);
@@ -235,6 +236,27 @@ static void has_one_connection(void) {
     has_no_connection(0);
 }
 
+/* A debugger is told that the runtime ends, with what it has suspended resumed, and is closed. The next one finds all as it is. */
+static void tells_the_end(void) {
+    static packet wanted;
+    uint64_t before = resumptions();
+    OK(cq_door_runtime_ends(&door));
+    attach();
+    asks(11, 2, SLEEPER, 0, "");
+    ask(1, 1, "");
+    OK(cq_door_runtime_ends(&door));
+    make_request(&wanted, 0, 64, 100, "00 00000001 63 00000000");
+    take(&wanted);
+    SAME(resumptions(), before + 1);
+    CHECK(goes_on(&sleeper));
+    OK(cq_block(&sleeper, CQ_SLEEP));
+    SAME(action_now(), CQ_DOOR_CLOSE);
+    detach();
+    attach();
+    asks(11, 12, SLEEPER, 0, "00000000");
+    detach();
+}
+
 /* A door for HTTP resumes nothing, and asks nothing. */
 static void tells_of_http(void) {
     cq_door other = { 0 };
@@ -246,6 +268,7 @@ static void tells_of_http(void) {
     OK(cq_door_tells_variables(&other, true));
     OK(cq_door_pops_frames(&other, true));
     OK(cq_door_starts_suspended(&other, true));
+    OK(cq_door_runtime_ends(&other));
     OK(cq_door_question(&other, &question));
     SAME(question.kind, CQ_QUESTION_NONE);
     SAME(cq_door_answer(&other, &variables), CQ_NONE);
@@ -259,6 +282,7 @@ static void tells_misuse(void) {
     tells_of_empty_handles();
     refuses_to_open();
     has_one_connection();
+    tells_the_end();
     tells_of_http();
     close_debugger();
     SAME(cq_close_door(&door), CQ_MISUSED);

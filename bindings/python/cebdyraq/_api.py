@@ -447,6 +447,7 @@ FUNCTIONS: Dict[str, Tuple[Any, List[Any]]] = {
     "cq_door_output": (U32, [AT, NUMBER, AT, SIZE, AT]),
     "cq_door_written": (U32, [AT, NUMBER, WORD, WORD]),
     "cq_door_disconnect": (U32, [AT, NUMBER]),
+    "cq_door_runtime_ends": (U32, [AT]),
     "cq_door_tick": (U32, [AT, WORD, AT]),
     "cq_door_starts_suspended": (U32, [AT, BOOL]),
     "cq_door_tells_variables": (U32, [AT, BOOL]),

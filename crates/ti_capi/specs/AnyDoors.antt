@@ -23,6 +23,7 @@ use Rattle.ti_service.specs.Classes.{classes_of}
 use Rattle.ti_service.specs.Leaving.{Disposes, StaysOn}
 use Rattle.ti_service.specs.Memberships.{AgentValue, state_of}
 use Rattle.ti_service.specs.Service.{Member}
+use Rattle.ti_debugger.specs.Ending as ending
 use Rattle.ti_debugger.specs.Opening as opening
 use Rattle.ti_debugger.specs.Runs as debugger_runs
 use Rattle.ti_debugger.specs.Seats as debugger_seats
@@ -138,6 +139,12 @@ abbrev pub Disconnects : ℕ → AnyDoor → AnyDoor → Type 0
 Disconnects connection (any.Http d) (any.Http n) = http.Closes d n connection
 Disconnects connection (any.Debugger d) (any.Debugger n) = (is_some (session_at connection d) ≡ true) × (n.session ≡ None) × (n.due ≡ None) × NoneHeld n.watched × (n.asked ≡ asked.Nothing) × (n.objects ≡ []) × (n.numbers ≡ 0) × Works d (record n { objects = d.objects; numbers = d.numbers })
 Disconnects connection _ _ = ⊥
+
+-- the runtime ends, which a debugger is told. A door for HTTP tells nothing of it
+abbrev pub RuntimeEnds : AnyDoor → AnyDoor → Type 0
+RuntimeEnds (any.Http d) (any.Http n) = n ≡ d
+RuntimeEnds (any.Debugger d) (any.Debugger n) = ending.RuntimeEnds d n
+RuntimeEnds _ _ = ⊥
 
 -- Each connection goes on, and none opens or closes. A debugger's session is told of events alone
 abbrev pub Ticks : AnyDoor → AnyDoor → Type 0

@@ -22,7 +22,7 @@ use Rattle.ti_capi.specs.declared.any_door.AnyDoor.TheVariants.{Http, Debugger}
 use Rattle.ti_capi.specs.declared.held.Held.{Held}
 use Rattle.ti_capi.specs.Codes.{misused, none_told}
 use Rattle.ti_capi.specs.declared.held.HeldDoor.{HeldDoor}
-use Rattle.ti_capi.specs.AnyDoors.{AllRun, EndsAs, Feeds, Goes, MayEnd, Opens, OpensNone, Refuses, StaysAs, Ticks, is_there, output_at, resumptions, room_at}
+use Rattle.ti_capi.specs.AnyDoors.{AllRun, EndsAs, Feeds, Goes, MayEnd, Opens, OpensNone, Refuses, RuntimeEnds, StaysAs, Ticks, is_there, output_at, resumptions, room_at}
 use Rattle.ti_capi.specs.Handles.{Handle, door_box_in, door_of, service_in, with_door_box}
 use Rattle.ti_capi.specs.Services.{Fills, FillsBy, NamesWrongly, RefusesEnv}
 use Rattle.ti_capi.specs.Values.{over}
@@ -92,6 +92,9 @@ GivesOutput connection b b' c c' d n code =
     ((code ≡ 0) × (is_there connection d ≡ true) × (c' ≡ min (length (output_at connection d)) (length b)) × (b' ≡ over (output_at connection d) b))
     ⊎ ((code ≡ none_told) × (is_there connection d ≡ false) × (b' ≡ b) × (c' ≡ c))
     )
+
+abbrev pub TellsOfEnd : AnyDoor → AnyDoor → ℕ → Type 0
+TellsOfEnd d n code = (code ≡ 0) × RuntimeEnds d n
 
 -- each connection goes on
 abbrev pub IsTicked : AnyDoor → AnyDoor → ℕ → Type 0

@@ -185,6 +185,16 @@ impl AnyDoor {
         }
     }
 
+    /// The runtime ends, of which a debugger is told. Nothing happens at a door for HTTP.
+    pub(crate) fn runtime_ends(&mut self)
+        ensures { RuntimeEnds self.old self.new }
+    {
+        match self {
+            AnyDoor::Http(_) => (),
+            AnyDoor::Debugger(debugger) => debugger.runtime_ends(),
+        }
+    }
+
     /// Does what is due.
     pub(crate) fn tick(&mut self, now: u64)
         ensures { Ticks self.old self.new }
@@ -309,4 +319,4 @@ impl AnyDoor {
 ghost use Rattle.std.specs.Prelude.{◌≡◌, IfErr, IfNone, IfOk, IfSome, OnErr, OnOk};
 ghost use Rattle.ti_capi.specs.Codes.{code_done};
 ghost use Rattle.ti_capi.specs.Questions.{SaysPops, SaysStarts, SaysTells, TellsNone, TellsTold, TellsVariables, question_at};
-ghost use Rattle.ti_capi.specs.AnyDoors.{AllRun, Disconnects, Ends, EndsAs, Feeds, Goes, IsUnknown, MayEnd, Opens, OpensNone, Refuses, StaysAs, Ticks, Writes, at_door, is_there, only, output_at, resumptions, room_at, todo_at_door};
+ghost use Rattle.ti_capi.specs.AnyDoors.{AllRun, Disconnects, Ends, EndsAs, Feeds, Goes, IsUnknown, MayEnd, Opens, OpensNone, Refuses, RuntimeEnds, StaysAs, Ticks, Writes, at_door, is_there, only, output_at, resumptions, room_at, todo_at_door};

@@ -262,6 +262,16 @@ pub extern "C" fn cq_door_disconnect(door: &mut CqDoor, connection: u32) -> u32
     code_of(door.disconnect(connection))
 }
 
+/// The runtime ends.
+#[unsafe(no_mangle)]
+pub extern "C" fn cq_door_runtime_ends(door: &mut CqDoor) -> u32
+    ensures { CallsDoor TellsOfEnd ⊤ door.old door.new result }
+{
+    behind!(door in door.held_door());
+    door.runtime_ends();
+    CQ_OK
+}
+
 /// Does what is due.
 #[unsafe(no_mangle)]
 pub extern "C" fn cq_door_tick(door: &mut CqDoor, now: u64, deadline: &mut u64) -> u32
@@ -316,5 +326,5 @@ fn close(held: &mut HeldDoor) -> u32
 
 ghost use Rattle.std.specs.Prelude.{◌≡◌, ⊤, IfErr, IfOk, OnOk, Some};
 ghost use Rattle.ti_capi.specs.AnyDoors.{Disconnects, Ends, Writes};
-ghost use Rattle.ti_capi.specs.Doors.{AwaitsDebugger, CallsDoor, ChangesOne, Closes, ClosesDoor, Connects, GivesOutput, HasDoor, IsTicked, OpensDebugger, OpensDoor, RefusesDebugger, RefusesDoor, Takes, Tells, TellsAbout, TellsResumptions, TellsWrongly, action_of, code_done, code_refused, hosts_at};
+ghost use Rattle.ti_capi.specs.Doors.{AwaitsDebugger, CallsDoor, ChangesOne, Closes, ClosesDoor, Connects, GivesOutput, HasDoor, IsTicked, OpensDebugger, OpensDoor, RefusesDebugger, RefusesDoor, Takes, Tells, TellsAbout, TellsOfEnd, TellsResumptions, TellsWrongly, action_of, code_done, code_refused, hosts_at};
 ghost use Rattle.ti_service.specs.Service.{with_handle};

@@ -888,6 +888,7 @@ extern "C" {
     pub fn cq_door_output(door: *mut cq_door, connection: u32, bytes: *mut u8, room: usize, count: *mut u64) -> u32;
     pub fn cq_door_written(door: *mut cq_door, connection: u32, count: u64, now: u64) -> u32;
     pub fn cq_door_disconnect(door: *mut cq_door, connection: u32) -> u32;
+    pub fn cq_door_runtime_ends(door: *mut cq_door) -> u32;
     pub fn cq_door_tick(door: *mut cq_door, now: u64, deadline: *mut u64) -> u32;
     pub fn cq_door_starts_suspended(door: *mut cq_door, suspended: bool) -> u32;
     pub fn cq_door_tells_variables(door: *mut cq_door, tells: bool) -> u32;
