@@ -30,6 +30,8 @@ static const uint64_t REFUSED_NS = 100000000;  /* before connections are taken i
 static const uint64_t PERIOD_NS = 10000000000;  /* within which a peer takes LEAST_TAKEN bytes, or all that there is */
 static const uint64_t LEAST_TAKEN = 65536;
 static const uint64_t PATIENCE_NS = 1000000000;  /* how long a peer may keep the server from writing before it gives way */
+static const uint64_t FAREWELL_NS = 200000000;  /* how long a debugger may take to read what it is told at the end */
+static const uint64_t PARTING_NS = 50000000;    /* and then to close its end */
 
 /* How a peer takes what is written to it. */
 typedef struct {
@@ -615,6 +617,52 @@ static uint64_t next_pass(server *s, telling *t, uint64_t deadline) {
     return note_told(s, asked) ? now : NEVER;
 }
 
+/* Sleeps until a socket has something, or this time has come. */
+static void await_socket(int socket, short events, uint64_t until) {
+    struct pollfd at = { socket, events, 0 };
+    uint64_t now = now_ns(), left = until > now ? until - now : 0;
+    poll(&at, 1, (int)(left / 1000000) + 1);
+}
+
+/* Writes what the door has for the debugger, until there is nothing more, or this time has come. Returns whether it has written or
+ * answered. */
+static bool write_out(server *s, uint64_t until) {
+    bool moved = go_on(s, 0);
+    wake_resumed(s);
+    while (s->sockets[0] >= 0 && s->actions[0] == CQ_DOOR_WRITE && now_ns() < until) {
+        await_socket(s->sockets[0], POLLOUT, until);
+        moved = go_on(s, 0) || moved;
+        wake_resumed(s);
+    }
+    return moved;
+}
+
+/* Reads away what a debugger sends that has yet to close its end: a close before that could cut off what it has yet to read. */
+static void see_off_all(server *s) {
+    uint64_t until = now_ns() + PARTING_NS;
+    for (size_t i = 0; i < CQ_DOOR_CONNECTIONS; i++) {
+        while (s->leaving[i] >= 0 && now_ns() < until) {
+            await_socket(s->leaving[i], POLLIN, until);
+            see_off(&s->leaving[i], s->leaving_since[i], now_ns());
+        }
+    }
+}
+
+/* The runtime ends. A debugger is told of what took place before, and then of the end. Ticks go on until two in a row give it nothing to
+ * read: one tells at most 4,096 ends of threads, and none while the list of threads is in use. */
+static void take_leave(server *s) {
+    uint64_t until = now_ns() + FAREWELL_NS;
+    for (uint32_t quiet = 0; quiet < QUIET_PASSES && s->sockets[0] >= 0 && now_ns() < until;) {
+        tick(s);
+        quiet = write_out(s, until) ? 0 : quiet + 1;
+    }
+    if (s->sockets[0] >= 0) {
+        cq_door_runtime_ends(&s->door);
+        write_out(s, until);
+    }
+    see_off_all(s);
+}
+
 /* If a connection cannot be taken in, all are served once more, since one of them may have to leave. Then it takes until one has,
  * or for a while. */
 static void *run(void *arg) {
@@ -643,6 +691,9 @@ static void *run(void *arg) {
         list_sockets(s, takes, all);
         uint64_t pass = next_pass(s, &classes, deadline), until = next_time(s, next_look(&at, has_come, deadline), takes, refused);
         has_come = rest(all, wrote || is_refused ? 0 : earlier(pass, until));
+    }
+    if (s->is_for_debuggers) {
+        take_leave(s);
     }
     return NULL;
 }

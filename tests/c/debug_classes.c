@@ -6,7 +6,6 @@
 #include <semaphore.h>
 #include <stdatomic.h>
 #include <sys/socket.h>
-#include <time.h>
 #include <unistd.h>
 
 enum { WORKERS = 2, MANY = 5000 };
@@ -270,12 +269,6 @@ static void stay_both(void) {
     pthread_barrier_destroy(&all_defined);
     close(socket);
     finish();
-}
-
-static uint64_t clock_ms(void) {
-    struct timespec now;
-    clock_gettime(CLOCK_MONOTONIC, &now);
-    return (uint64_t)now.tv_sec * 1000 + (uint64_t)now.tv_nsec / 1000000;
 }
 
 /* It does not wait for the server's thread, which sleeps up to 100 ms. */

@@ -135,6 +135,15 @@ void asks_at(int socket, uint8_t set, uint8_t command, const char *data, uint16_
     check_bytes(found.bytes, found.length, &wanted);
 }
 
+void hears_end(int socket, uint32_t number) {
+    static packet wanted;
+    uint8_t found[21];
+    make_request(&wanted, number, 64, 100, "00 00000001 63 00000000");
+    SAME(recv(socket, found, sizeof found, MSG_WAITALL), sizeof found);
+    check_bytes(found, sizeof found, &wanted);
+    CHECK(is_closed(socket));
+}
+
 /* A debugger attaches, and asks for what is the same each time. */
 static void attaches(void) {
     int socket = attached();
@@ -150,6 +159,12 @@ static void attaches(void) {
 /* ------------------------------------------------------------------------------------------------------------------
  * What is tested.
  */
+
+uint64_t clock_ms(void) {
+    struct timespec now;
+    clock_gettime(CLOCK_MONOTONIC, &now);
+    return (uint64_t)now.tv_sec * 1000 + (uint64_t)now.tv_nsec / 1000000;
+}
 
 static uint64_t processor_ms(void) {
     struct timespec used;
@@ -180,12 +195,6 @@ static void closes_what_is_no_debugger(void) {
     CHECK(is_closed(socket));
     close(socket);
     attaches();
-}
-
-static uint64_t clock_ms(void) {
-    struct timespec now;
-    clock_gettime(CLOCK_MONOTONIC, &now);
-    return (uint64_t)now.tv_sec * 1000 + (uint64_t)now.tv_nsec / 1000000;
 }
 
 /* One that does not greet is closed after two seconds, and another may attach. */
@@ -233,7 +242,7 @@ static void ends_while_all_stands(const char *address) {
     check_stands();
     OK(cq_serve_end(&debugged));
     await_worker();
-    CHECK(is_closed(socket));
+    hears_end(socket, 0);
     close(socket);
     end_debugged();
 }
@@ -255,7 +264,7 @@ static void ends_while_one_is_busy(void) {
     asks_at(socket, 11, 2, WORKER, 0, "");
     asks_at(socket, 11, 7, WORKER, 13, "");
     SAME(pthread_create(&ender, NULL, end_server, &ended), 0);
-    CHECK(is_closed(socket));
+    hears_end(socket, 0);
     close(socket);
     usleep(50000);
     CHECK(!atomic_load(&ended));
@@ -348,6 +357,7 @@ int main(void) {
     starts_suspended();
     tells_classes();
     tells_stops();
+    tells_the_end();
     takes_own_users();
     return 0;
 }

@@ -28,6 +28,12 @@ bool is_greeted(int socket);
 /* Asks, and takes the reply: it has this error and data. */
 void asks_at(int socket, uint8_t set, uint8_t command, const char *data, uint16_t error, const char *reply);
 
+/* The debugger is told that the runtime ends, by its event of this number, and then the socket is closed. */
+void hears_end(int socket, uint32_t number);
+
+/* Milliseconds of a clock that never goes back. */
+uint64_t clock_ms(void);
+
 /* debug_users.c: who may attach. */
 void takes_own_users(void);
 
@@ -39,6 +45,9 @@ void starts_suspended(void);
 
 /* debug_classes.c: threads that define a class, and run it once the debugger has been told of it. */
 void tells_classes(void);
+
+/* debug_ends.c: debuggers that are there when the server ends. */
+void tells_the_end(void);
 
 /* debug_stops.c: a thread that stops at a breakpoint time and again, and wakes the servers that look for it. */
 void tells_stops(void);

@@ -55,8 +55,8 @@ CLASSES = ["classes.c", "classes_wrong.c", "classes_threads.c"]
 SERVED = ["serve.c", "serve_wrong.c", "serve_many.c", "serve_few.c", "serve_fork.c", "client.c"]
 DEBUGGER = ["debugger.c", "debugger_asks.c", "debugger_suspends.c", "debugger_variables.c", "debugger_pops.c", "debugger_memory.c",
             "debugger_random.c", "debugger_streams.c", "jdwp.c"]
-DEBUGGED = ["debug_listen.c", "debug_users.c", "debug_variables.c", "debug_starts.c", "debug_classes.c", "debug_stops.c", "client.c",
-            "jdwp.c"]
+DEBUGGED = ["debug_listen.c", "debug_users.c", "debug_variables.c", "debug_starts.c", "debug_classes.c", "debug_stops.c", "debug_ends.c",
+            "client.c", "jdwp.c"]
 CODES = ["codes.c", "codes_threads.c", "codes_envs.c", "codes_memory.c", "codes_gather.c"]
 PROGRAMS = [
     Program("two_threads", ["two_threads.c"], HEAP),
