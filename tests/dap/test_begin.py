@@ -113,7 +113,7 @@ class End(Case):
         self.program_ends()
 
     def test_the_last_thread_is_told_to_have_ended(self):
-        with places.running("ends.lua") as host:
+        with places.running("values.lua") as host:
             client = self.client()
             client.begin("attach", port=host.port)
             client.wait("thread", reason="exited")
