@@ -51,6 +51,7 @@ static void tells_threads_before(void) {
     int socket = attach();
     asks_at(socket, 15, 1, "07 00 00000000", 0, "00000001");
     asks_at(socket, 15, 1, "63 02 00000000", 0, "00000002");
+    usleep(20000);  /* the server's thread is at rest */
     for (uint32_t i = 0; i < SHORT; i++) {
         run_one();
     }
