@@ -18,25 +18,14 @@
  * has let all threads go, also if its time was over. */
 #define _GNU_SOURCE
 #include "cebdyraq_wait.h"
+#include "cebdyraq_futex.h"
 #include "cebdyraq_servers.h"
 
 #include <errno.h>
-#include <linux/futex.h>
 #include <sched.h>
 #include <stdlib.h>
-#include <sys/syscall.h>
 #include <time.h>
 #include <unistd.h>
-
-/* The futex call that takes times of 64 bits. On 32-bit systems it is one of its own, from Linux 5.1 on, whatever size the
- * program's time_t has. */
-#ifdef SYS_futex_time64
-enum { FUTEX = SYS_futex_time64 };
-#else
-enum { FUTEX = SYS_futex };
-_Static_assert(sizeof(void *) == 8, "a 32-bit system needs the headers of Linux 5.1 or later");
-#endif
-typedef struct { int64_t seconds, nanoseconds; } futex_time;
 
 enum { FOREVER = -1 };
 /* How long to spin before sleeping, at most. Where it does not pay, one wait of so many spins for a little, to find out anew. */
