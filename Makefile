@@ -102,7 +102,8 @@ SHAREDIR ?= $(PREFIX)/share/cebdyraq
 PROGRAMS = $(wildcard $(foreach name,tiwalk tilint tiprof,crates/$(name)/out/$(name)) hosts/lua/out/cqlua tools/dap/out/cq-dap)
 INSTALLED = $(BINDIR)/tiwalk $(BINDIR)/tilint $(BINDIR)/tiprof $(BINDIR)/cqlua $(BINDIR)/cq-dap $(MANDIR)/man3/cebdyraq.3 \
 	$(LIBDIR)/libcebdyraq.a $(LIBDIR)/libcebdyraq.so $(LIBDIR)/libcebdyraq.so.2 $(LIBDIR)/libcebdyraq.so.2.* \
-	$(SHAREDIR)/tsan.supp $(LIBDIR)/pkgconfig/cebdyraq.pc $(INCLUDEDIR)/cebdyraq.h $(INCLUDEDIR)/cebdyraq.hpp $(INCLUDEDIR)/cebdyraq_wait.h $(INCLUDEDIR)/cebdyraq_serve.h
+	$(SHAREDIR)/tsan.supp $(LIBDIR)/pkgconfig/cebdyraq.pc $(INCLUDEDIR)/cebdyraq.h $(INCLUDEDIR)/cebdyraq.hpp $(INCLUDEDIR)/cebdyraq_wait.h $(INCLUDEDIR)/cebdyraq_serve.h \
+	$(INCLUDEDIR)/cebdyraq_watch.h
 
 install:
 	@test -f dist/lib/libcebdyraq.a || { echo "there is nothing to install: make lib builds it" >&2; exit 1; }

@@ -4,11 +4,37 @@
 #define CEBDYRAQ_PROVED_H
 
 #include "cebdyraq_serve.h"
+#include "cebdyraq_watch.h"
 
 /* cq_open_door and cq_open_debugger. `version` is what /metrics and debuggers are told, in UTF-8. */
 uint32_t cebdyraq_open_door(cq_service *service, const uint8_t *program, size_t length, const uint8_t *version, size_t version_length,
                             uint32_t port, uint64_t now, cq_door *door);
 uint32_t cebdyraq_open_debugger(cq_service *service, const uint8_t *program, size_t program_length, const uint8_t *path,
                                 size_t path_length, const uint8_t *version, size_t version_length, uint64_t now, cq_door *door);
+
+/* A watch of threads, which is told of each that becomes wanted, and counts its news. A handle of it is the first two members of a
+ * cq_watch, and is used by one call at a time, but for the count.
+ *
+ * `beside` is a watch with which the new one shares its count of news, or an empty handle. CQ_MISUSED 304: `watch` is not empty, or
+ * `beside` is a handle of another kind. CQ_OUT_OF_MEMORY 110. */
+uint32_t cebdyraq_open_watch(cq_watch *beside, cq_watch *watch);
+
+/* Empties the handle. */
+uint32_t cebdyraq_close_watch(cq_watch *watch);
+
+/* From now on the watch tells of the thread, at once if somebody calls for it now, and any other watch does not. CQ_NOT_RUNNING 204,
+ * CQ_BUSY 215, CQ_OUT_OF_MEMORY 110. */
+uint32_t cebdyraq_watch_thread(cq_thread *thread, cq_watch *watch);
+
+/* From now on no watch tells of it. CQ_NOT_RUNNING 204, CQ_BUSY 215. */
+uint32_t cebdyraq_unwatch_thread(cq_thread *thread);
+
+/* Writes the number of a thread that has become wanted and was not told. CQ_NONE 303: there is none, or the next one is just being
+ * entered. Then the count changes once it is. */
+uint32_t cebdyraq_next_wanted(cq_watch *watch, uint32_t *thread);
+
+/* Writes where the count of news is. It is there as long as a watch is open that has it. Whoever enters a thread into a watch adds one
+ * after that, before its call returns. */
+uint32_t cebdyraq_news_of(cq_watch *watch, uint64_t **news);
 
 #endif

@@ -1,6 +1,6 @@
 #!/usr/bin/env python3
 """Writes what says the same as the headers of the library for C: the names that the shared library exports, names and texts of codes,
-declarations of the bindings, the page of codes, and the version wherever it stands.
+the calls after which watches are told, declarations of the bindings, the page of codes, and the version wherever it stands.
 
     ci/generate.py            writes
     ci/generate.py --check    writes nothing, and fails if a file is not as it would be written
@@ -30,6 +30,7 @@ WHOLE = {
     "bindings/python/cebdyraq/_api.py": made_python.declarations,
     "bindings/rust/cebdyraq-sys/src/api.rs": made_rust.declarations,
     "c/cebdyraq.map": made_c.exported,
+    "c/cebdyraq_calls.c": made_c.calls_file,
     "c/cebdyraq_codes.c": made_c.codes_file,
     "docs/CODES.md": made_page.codes_page,
 }

@@ -5,7 +5,7 @@ import re
 from collections import namedtuple
 
 C = pathlib.Path(__file__).resolve().parent.parent / "c"
-HEADERS = ("cebdyraq.h", "cebdyraq_wait.h", "cebdyraq_serve.h")
+HEADERS = ("cebdyraq.h", "cebdyraq_wait.h", "cebdyraq_serve.h", "cebdyraq_watch.h")
 # One that is not installed.
 INNER = "cebdyraq_proved.h"
 COMMENT = re.compile(r"^/\*(.*?)\*/$", re.M | re.S)

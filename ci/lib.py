@@ -14,6 +14,7 @@ taken from the environment. `make install` installs what is in dist/.
 
 import os
 import pathlib
+import re
 import shlex
 import shutil
 import subprocess
@@ -33,12 +34,16 @@ HEADERS = (*header.HEADERS, "cebdyraq.hpp")
 SUPPRESSIONS = "tsan.supp"
 # The objects of the library, each with its C files.
 OBJECTS = {
-    "cebdyraq": ("cebdyraq_heap", "cebdyraq_version", "cebdyraq_codes", "cebdyraq_classes", "cebdyraq_variables"),
+    "cebdyraq": ("cebdyraq_heap", "cebdyraq_version", "cebdyraq_codes", "cebdyraq_classes", "cebdyraq_variables", "cebdyraq_calls"),
     "cebdyraq_wait": ("cebdyraq_wait",),
     "cebdyraq_serve": ("cebdyraq_serve", "cebdyraq_listen", "cebdyraq_peer"),
+    "cebdyraq_watch": ("cebdyraq_watch",),
 }
-# The name that two of them share beside those of the headers. The shared library does not export it.
-SHARED = "cebdyraq_wake_servers"
+# The names that two of them share beside those of the headers. The shared library does not export them.
+SHARED = ("cebdyraq_wake_servers", "cebdyraq_watchers", "cebdyraq_open_watch", "cebdyraq_close_watch", "cebdyraq_watch_thread",
+          "cebdyraq_unwatch_thread", "cebdyraq_next_wanted", "cebdyraq_news_of")
+# The functions of the proved half that have another name in the library, since cebdyraq_calls.c has one of theirs.
+CALL = re.compile(r"^\w+ cebdyraq_(\w+)_proved\(", re.M)
 FLAGS = ("-std=c11", "-O2", "-g", "-fPIC", "-Wall", "-Wextra", "-Werror", f"-ffile-prefix-map={TOP}/=")
 PKG_CONFIG = """prefix=${{pcfiledir}}/../..
 includedir=${{prefix}}/include
@@ -67,19 +72,28 @@ def compiled(name, room):
     return made
 
 
+def with_calls_renamed(archive, room):
+    """The archive of the proved half, under the names by which cebdyraq_calls.c calls it."""
+    table, made = room / "names", room / "proved.a"
+    called = CALL.findall((header.C / "cebdyraq_calls.c").read_text())
+    table.write_text("".join(f"cq_{name} cebdyraq_{name}_proved\n" for name in called))
+    run(*words("OBJCOPY", "objcopy"), "--redefine-syms", table, archive, made)
+    return made
+
+
 def joined(name, parts, room):
-    """One object of several, in which only cq_ names are global, and the one that objects share."""
+    """One object of several, in which only cq_ names are global, and those that objects share."""
     made = room / f"{name}.o"
     run(*words("CC", "cc"), "-nostdlib", "-r", *parts, "-o", made)
     # (the partial link makes LLVM's table of addresses stale)
-    kept = [f"--keep-global-symbol={name}" for name in ("cq_*", SHARED)]
+    kept = [f"--keep-global-symbol={name}" for name in ("cq_*", *SHARED)]
     run(*words("OBJCOPY", "objcopy"), "--wildcard", *kept, "--remove-section=.llvm_addrsig", made)
     return made
 
 
 def objects(archive, room):
     """The objects of OBJECTS. The first one has the proved half as well."""
-    proved = ["-Wl,--whole-archive", archive, "-Wl,--no-whole-archive"]
+    proved = ["-Wl,--whole-archive", with_calls_renamed(archive, room), "-Wl,--no-whole-archive"]
     return [joined(made, proved * (made == "cebdyraq") + [compiled(name, room) for name in names], room) for made, names in OBJECTS.items()]
 
 

@@ -3,6 +3,7 @@
 import re
 
 import header
+import proved
 
 SAID = "Made from the headers by ci/generate.py. Do not edit."
 CODES = """/* cebdyraq_codes.c: the names and the texts of the codes. {said} */
@@ -22,6 +23,26 @@ const char *cq_code_text(uint32_t code) {{
     }}
 }}
 """
+
+CALLS = """/* cebdyraq_calls.c: the functions of the proved half by which an environment or a door may call for a thread, each with a look at
+ * whether somebody watches. {said}
+ *
+ * What the proved half has under the name of such a function, as cq_collect, is called cebdyraq_collect_proved here (ci/lib.py). */
+#include "cebdyraq_serve.h"
+#include "cebdyraq_watchers.h"
+
+watchers cebdyraq_watchers;
+{calls}"""
+CALL = """
+{result} {proved}({parameters});
+{result} {name}({parameters}) {{
+    {result} result = {proved}({arguments});
+    tell_watchers();
+    return result;
+}}
+"""
+# The handles of those who may call for a thread.
+CALLERS = {"cq_env", "cq_door"}
 
 
 def numbers(text):
@@ -86,3 +107,29 @@ def codes_file(table):
     names = "\n".join(f"    case {one.name}: return {quoted(one.name)};" for one in codes)
     texts = "\n".join(f"    case {one.name}: return {quoted(one.plain)};" for one in codes)
     return CODES.format(said=SAID, names=names, texts=texts)
+
+
+def proved_name(name):
+    """cq_collect as cebdyraq_collect_proved."""
+    return f"cebdyraq_{name.removeprefix('cq_')}_proved"
+
+
+def calls(table):
+    """The functions of the proved half that take a handle of one who may call for a thread."""
+    exported = {name for name, _, _ in proved.exports()}
+    return [one for one in table.functions if one.name in exported and one.parameters[0].type.base in CALLERS]
+
+
+def declared(one):
+    """A parameter as C writes it."""
+    return f"{'const ' * one.type.const}{one.type.base} {'*' * one.type.stars}{one.name}"
+
+
+def call(function):
+    parameters = ", ".join(map(declared, function.parameters))
+    return CALL.format(result=function.result.base, name=function.name, proved=proved_name(function.name), parameters=parameters,
+                       arguments=", ".join(one.name for one in function.parameters))
+
+
+def calls_file(table):
+    return CALLS.format(said=SAID, calls="".join(map(call, calls(table))))

@@ -22,7 +22,7 @@ If several codes fit, a function gives the first of its list, except that BUSY m
 - Each function that takes a {handles} also gives MISUSED, before all others{never}.
 - *Calls at a thread* may also give {in_common}. Where `cebdyraq_wait.h` has the call it waits in place of {waits}.
 - *The call's* are the codes of the call whose answer is collected.
-- A function of `cebdyraq_wait.h` that is not below gives what its namesake gives, without {ended}, and TIMED_OUT if it takes a time.
+- A function whose name begins with `cq_wait_` and that is not below gives what its namesake gives, without {ended}, and TIMED_OUT if it takes a time.
 """
 PART = """
 ### {header}
@@ -76,7 +76,7 @@ class Page:
         return PART.format(header=name, rows="\n".join(rows)) + (f"\nNo other code: {', '.join(quoted(others))}.\n" if others else "")
 
     def text(self):
-        handles = [one.name for one in self.table.structs if one.members and [member.name for member in one.members] == ["kind", "at"]]
+        handles = [one.name for one in self.table.structs if one.members and [member.name for member in one.members][:2] == ["kind", "at"]]
         never = [one.name for one in self.table.functions if codes.NO_OTHER in api.flat(one.comment)]
         common = self.codes.in_common()
         waits = [name for name in common if name in codes.ENDED_BY_WAITING | codes.ENDED_AT_A_THREAD]

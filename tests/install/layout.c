@@ -1,6 +1,7 @@
 /* layout.c: the sizes, the places of members and the numbers that programs were compiled with (docs/ABI.md), on a system of 64
  * bits. It is compiled, and not run. */
 #include <cebdyraq_serve.h>
+#include <cebdyraq_watch.h>
 
 #ifndef __cplusplus
 #define static_assert _Static_assert
@@ -69,6 +70,7 @@ SIZE(cq_sleepers, 8);
 SIZE(cq_signal, 16);
 SIZE(cq_door, 16);
 SIZE(cq_server, 768);
+SIZE(cq_watch, 128);
 SIZE(cq_question, 16);
 PLACE(cq_question, kind, 0);
 PLACE(cq_question, method, 4);

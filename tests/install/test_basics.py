@@ -11,8 +11,8 @@ import man_page
 from installed import CC, CXX, HERE, TOP, VERSION, WARNINGS, compiled, files, flags, make, new_folder, pkg_config, prefix, run, wants
 
 FILES = {
-    "include/cebdyraq.h", "include/cebdyraq.hpp", "include/cebdyraq_serve.h", "include/cebdyraq_wait.h", "lib/libcebdyraq.a", "lib/libcebdyraq.so",
-    "lib/libcebdyraq.so.2", f"lib/libcebdyraq.so.{VERSION}", "lib/pkgconfig/cebdyraq.pc", "share/cebdyraq/tsan.supp", "share/man/man3/cebdyraq.3",
+    "include/cebdyraq.h", "include/cebdyraq.hpp", "include/cebdyraq_serve.h", "include/cebdyraq_wait.h", "include/cebdyraq_watch.h",
+    "lib/libcebdyraq.a", "lib/libcebdyraq.so", "lib/libcebdyraq.so.2", f"lib/libcebdyraq.so.{VERSION}", "lib/pkgconfig/cebdyraq.pc", "share/cebdyraq/tsan.supp", "share/man/man3/cebdyraq.3",
 }
 PROGRAMS = {
     "bin/tiwalk": "crates/tiwalk/out/tiwalk", "bin/tilint": "crates/tilint/out/tilint", "bin/tiprof": "crates/tiprof/out/tiprof",
@@ -104,7 +104,7 @@ class Names(unittest.TestCase):
         self.assertEqual(names(run("nm", "-D", "--defined-only", prefix() / "lib/libcebdyraq.so")), set(header.functions()))
 
     def test_static_library_exports_the_headers_functions(self):
-        self.assertEqual(names(run("nm", "-g", "--defined-only", prefix() / "lib/libcebdyraq.a")), {*header.functions(), lib.SHARED})
+        self.assertEqual(names(run("nm", "-g", "--defined-only", prefix() / "lib/libcebdyraq.a")), {*header.functions(), *lib.SHARED})
 
     def test_wait_half_is_linked_only_where_it_is_called(self):
         waiting = set(header.prototypes(header.text_of(header.HEADERS[1])))
@@ -112,8 +112,9 @@ class Names(unittest.TestCase):
         self.assertEqual(linked["heap.c"] & waiting, set())
         self.assertEqual(linked["program.c"] & waiting, waiting)
 
-    def test_sockets_are_linked_only_where_they_are_called(self):
-        self.assertNotIn("cq_serve", names(run("nm", compiled("program.c", linked=flags(static=True)))))
+    def test_sockets_and_watches_are_linked_only_where_they_are_called(self):
+        linked = names(run("nm", compiled("program.c", linked=flags(static=True))))
+        self.assertEqual(linked & {"cq_serve", "cq_open_watch"}, set())
 
     def test_shared_library_calls_its_own_functions(self):
         run(compiled("bound.c"))
@@ -122,7 +123,7 @@ class Names(unittest.TestCase):
         """The second is the archive with other names for its functions."""
         folder = new_folder()
         table = folder / "names"
-        table.write_text("".join(f"{name} two_{name}\n" for name in header.functions()))
+        table.write_text("".join(f"{name} two_{name}\n" for name in (*header.functions(), *lib.SHARED)))
         second, user, archive = folder / "two.o", folder / "user.o", folder / "libtwo.a"
         run(*CC, "-std=c11", *WARNINGS, *pkg_config("--cflags"), "-DCOPY=two_", "-c", HERE / "copy.c", "-o", user)
         run("objcopy", "--redefine-syms", table, user, second)

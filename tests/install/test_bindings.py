@@ -51,7 +51,7 @@ def library_of_version(number):
     source = folder / "library.c"
     bodies = [f"{prototype[:-1]} {{ {f'return {number};' if name == 'cq_version' else '__builtin_trap();'} }}\n"
               for name, prototype in header.functions().items()]
-    source.write_text('#include "cebdyraq_serve.h"\n' + "".join(bodies))
+    source.write_text("".join(f'#include "{name}"\n' for name in header.HEADERS) + "".join(bodies))
     run(*CC, "-w", "-fPIC", "-shared", f"-I{header.C}", source, "-Wl,-soname,libcebdyraq.so.2", f"-Wl,--version-script={header.C}/cebdyraq.map",
         "-o", folder / "libcebdyraq.so.2")
     return folder

@@ -12,7 +12,7 @@ import codes
 import header
 from installed import HERE, TOP, new_folder, run
 
-PARTS = ("bindings", "c", "ci", "docs")
+PARTS = ("bindings", "c", "ci", "crates/ti_capi/src", "docs")
 H, WAIT_H = "c/cebdyraq.h", "c/cebdyraq_wait.h"
 MAJOR, MINOR, PATCH = header.version()
 NEXT = MINOR + 1

@@ -4,9 +4,10 @@ import re
 import unittest
 
 import header
+import lib
 from installed import compiled, flags, new_folder, prefix, run, wants
 
-ENTRY = re.compile(r"#0 .* in cq_next_event \(\)[^\n]*\n"
+ENTRY = re.compile(r"#0 .*cq_next_event \(.*\) at c/cebdyraq_calls\.c:\d+\n"
                    r"#1 .* in cq_wait_next_event \(.*timeout_ns=(?:timeout_ns@entry=)?0.*\) at c/cebdyraq_wait\.c:\d+\n"
                    r"#2 .* in ask \(.*\) at .*stack\.c:\d+\n"
                    r"#3 .*main \(.*\) at .*stack\.c:\d+")
@@ -33,9 +34,11 @@ class Unwind(unittest.TestCase):
         of_wait = set(header.prototypes(header.text_of(header.HEADERS[1])))
         of_serve = {"cq_serve", "cq_debug_listen", "cq_serve_end", "cq_server_port", "cq_server_pops_frames", "cq_server_variables",
                     "cq_server_starts_suspended", "cq_server_await_resumption", "cq_server_tell_classes"}
+        of_watch = set(header.prototypes(header.text_of("cebdyraq_watch.h")))
+        calls = {f"cq_{name}" for name in lib.CALL.findall(header.text_of("cebdyraq_calls.c"))}
         of_variables = {"cq_door_answer"} | {name for name in header.functions() if name.startswith("cq_tell_")}
         of_others = {"cq_version", "cq_open_door", "cq_open_debugger", "cq_set_heap", "cq_define_class_strings", "cq_code_name", "cq_code_text"}
-        self.assertEqual(covered, of_wait | of_serve | of_variables | of_others)
+        self.assertEqual(covered, of_wait | of_serve | of_watch | calls | of_variables | of_others)
 
     @wants("perf")
     def test_perf_names_the_functions(self):

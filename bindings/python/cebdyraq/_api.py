@@ -305,6 +305,10 @@ class Server(ctypes.Structure):
     _fields_ = [("opaque", U64 * 96)]
 
 
+class Watch(ctypes.Structure):
+    _fields_ = [("kind", U32), ("at", AT), ("kept", U64 * 14)]
+
+
 # The result and the arguments of each function. A pointer is a void pointer here.
 FUNCTIONS: Dict[str, Tuple[Any, List[Any]]] = {
     "cq_version": (U32, []),
@@ -476,4 +480,11 @@ FUNCTIONS: Dict[str, Tuple[Any, List[Any]]] = {
     "cq_server_tell_classes": (U32, [AT]),
     "cq_server_port": (U32, [AT, AT]),
     "cq_serve_end": (U32, [AT]),
+    "cq_open_watch": (U32, [AT]),
+    "cq_close_watch": (U32, [AT]),
+    "cq_watch_thread": (U32, [AT, AT]),
+    "cq_unwatch_thread": (U32, [AT]),
+    "cq_next_wanted": (U32, [AT, AT, SIZE, AT]),
+    "cq_wait_next_wanted": (U32, [AT, I64, AT, SIZE, AT]),
+    "cq_watch_fd": (U32, [AT, AT]),
 }

@@ -489,6 +489,28 @@ impl Default for cq_server {
     }
 }
 
+/// A watch of threads, of one service or of several. Zeros at first, and then for these functions alone. It stays where it is until cq_close_watch.
+#[repr(C)]
+#[derive(Debug)]
+pub struct cq_watch {
+    kind: u32,
+    at: *mut c_void,
+    kept: [u64; 14],
+}
+
+impl cq_watch {
+    /// An empty one.
+    pub const fn empty() -> Self {
+        Self { kind: 0, at: null_mut(), kept: [0; 14] }
+    }
+}
+
+impl Default for cq_watch {
+    fn default() -> Self {
+        Self::empty()
+    }
+}
+
 extern "C" {
     // cebdyraq.h
     pub fn cq_version() -> u32;
@@ -949,4 +971,18 @@ extern "C" {
     pub fn cq_server_tell_classes(server: *mut cq_server) -> u32;
     pub fn cq_server_port(server: *const cq_server, port: *mut u16) -> u32;
     pub fn cq_serve_end(server: *mut cq_server) -> u32;
+    // cebdyraq_watch.h
+    pub fn cq_open_watch(watch: *mut cq_watch) -> u32;
+    pub fn cq_close_watch(watch: *mut cq_watch) -> u32;
+    pub fn cq_watch_thread(thread: *mut cq_thread, watch: *mut cq_watch) -> u32;
+    pub fn cq_unwatch_thread(thread: *mut cq_thread) -> u32;
+    pub fn cq_next_wanted(watch: *mut cq_watch, threads: *mut u32, room: usize, count: *mut u64) -> u32;
+    pub fn cq_wait_next_wanted(
+        watch: *mut cq_watch,
+        timeout_ns: i64,
+        threads: *mut u32,
+        room: usize,
+        count: *mut u64,
+    ) -> u32;
+    pub fn cq_watch_fd(watch: *mut cq_watch, fd: *mut i32) -> u32;
 }

@@ -1,4 +1,4 @@
-//! The functions of `cebdyraq.h`, `cebdyraq_wait.h` and `cebdyraq_serve.h`. Their rules are there.
+//! The functions of `cebdyraq.h`, `cebdyraq_wait.h`, `cebdyraq_serve.h` and `cebdyraq_watch.h`. Their rules are there.
 //!
 //! The build finds the shared library by pkg-config, or links `libcebdyraq.a` of the folder that `CEBDYRAQ_LIB_DIR` names.
 #![no_std]
