@@ -22,6 +22,7 @@ HERE = pathlib.Path(__file__).resolve().parent
 TOP = HERE.parent.parent
 sys.path.append(str(TOP / "ci"))
 
+import lib
 import tap
 
 C = TOP / "c"
@@ -33,6 +34,9 @@ NAMES = [C / "cebdyraq_codes.c"]
 VERSION = [C / "cebdyraq_version.c"]
 VARIABLES = [C / "cebdyraq_variables.c"]
 SERVE = [C / name for name in ("cebdyraq_serve.c", "cebdyraq_listen.c", "cebdyraq_peer.c")] + VARIABLES + VERSION
+# A program that has these is linked with the archive that they call.
+CALLS = C / "cebdyraq_calls.c"
+WATCH = [CALLS, C / "cebdyraq_watch.c"]
 MODEL = [HERE / name for name in ("model.c", "model_calls.c", "model_envs.c", "model_traces.c")]
 
 PLAIN, ADDRESS, THREAD, VALGRIND = "plain", "address,undefined", "thread", "valgrind"
@@ -47,6 +51,9 @@ class Program:
         self.sources = [HERE / source for source in sources] + others + wait
         self.arguments = arguments or {}
 
+    def calls(self):
+        return CALLS in self.sources
+
     def is_cxx(self):
         return any(source.suffix == ".cpp" for source in self.sources)
 
@@ -57,6 +64,7 @@ DEBUGGER = ["debugger.c", "debugger_asks.c", "debugger_suspends.c", "debugger_va
             "debugger_random.c", "debugger_streams.c", "jdwp.c"]
 DEBUGGED = ["debug_listen.c", "debug_users.c", "debug_variables.c", "debug_starts.c", "debug_classes.c", "debug_stops.c", "debug_ends.c",
             "client.c", "jdwp.c"]
+WATCHED = ["watch.c", "watch_told.c", "watch_others.c"]
 CODES = ["codes.c", "codes_threads.c", "codes_envs.c", "codes_memory.c", "codes_gather.c"]
 PROGRAMS = [
     Program("two_threads", ["two_threads.c"], HEAP),
@@ -87,6 +95,8 @@ PROGRAMS = [
     Program("tells", ["tells.c"], COUNTED_HEAP + VARIABLES, wait=[]),
     Program("debugger", DEBUGGER, COUNTED_HEAP + STRINGS + VARIABLES + VERSION, {THREAD: ["5000"], VALGRIND: ["300"]}, wait=[]),
     Program("debug_listen", DEBUGGED, HEAP + STRINGS + SERVE),
+    Program("watch", WATCHED, COUNTED_HEAP + VERSION + WATCH),
+    Program("watch_threads", ["watch_threads.c"], HEAP + WATCH, {ADDRESS: ["1000"], THREAD: ["500"], VALGRIND: ["30"]}),
     Program("fuzz", ["fuzz.c", "fuzz_calls.c"], MODEL + COUNTED_HEAP,
             {ADDRESS: ["1", "20000"], THREAD: ["1", "10000"], VALGRIND: ["1", "500"]}),
     Program("stress", ["stress.c", "stress_agents.c"], COUNTED_HEAP,
@@ -130,6 +140,8 @@ def compile_program(program, mode, archive, folder):
             return done.stdout
         objects.append(str(made))
     made = folder / program.name
+    if program.calls():
+        archive = lib.with_calls_renamed(archive, folder)
     linked = with_plain_memory(archive, folder) if mode == THREAD else [str(archive)]
     done = run([compiler(program.is_cxx()), *flags(mode), *objects, *linked, "-lpthread", "-o", str(made)])
     return done.stdout if done.returncode != 0 else None
