@@ -1,8 +1,8 @@
-/* cebdyraq.hpp: cebdyraq.h, cebdyraq_wait.h and cebdyraq_serve.h for C++17, as types that free what they hold.
+/* cebdyraq.hpp: cebdyraq.h, cebdyraq_wait.h, cebdyraq_serve.h and cebdyraq_watch.h for C++17, as types that free what they hold.
  *
  * A function does what that of its name does in C, and waits asleep. A code other than CQ_OK is thrown as an `error`. Without exceptions
  * (-fno-exceptions) it ends the program, with a line on the standard error. A `time` is in nanoseconds, and `forever` is no deadline.
- * Each object is used by one thread of the operating system at a time. It may be moved, and an object that was moved from may only be
+ * Each object but a `watch` is used by one thread of the operating system at a time. It may be moved, and an object that was moved from may only be
  * destroyed or assigned to.
  *
  * Calls that are posted and collected later are not here. They are made in C with the handle that `get` gives. */
@@ -10,6 +10,7 @@
 #define CEBDYRAQ_HPP
 
 #include "cebdyraq_serve.h"
+#include "cebdyraq_watch.h"
 
 #include <algorithm>
 #include <cerrno>
@@ -284,6 +285,53 @@ private:
     std::shared_ptr<common> shared_;
 };
 
+/* What tells which threads are wanted, by their numbers, for a runtime whose threads do not poll by themselves. Several threads may use it
+ * at once. It is closed when it is destroyed, and nobody sleeps in it then. */
+class watch {
+public:
+    watch() : handle_(std::make_unique<cq_watch>()) { check(cq_open_watch(get())); }
+    watch(watch &&) noexcept = default;
+    watch &operator=(watch &&other) noexcept {
+        std::swap(handle_, other.handle_);
+        return *this;
+    }
+    ~watch() {
+        if (get() != nullptr) cq_close_watch(get());
+    }
+
+    cq_watch *get() const noexcept { return handle_.get(); }
+
+    /* Those that have become wanted and were not told, at most so many. Once there is none, `fd` is readable when there is one. */
+    std::vector<std::uint32_t> next_wanted(std::size_t most = 64) {
+        return told(most, [this](auto *to, auto room, auto *count) { return cq_next_wanted(get(), to, room, count); });
+    }
+    /* The same, asleep until there is one. `code::timed_out` is thrown when the time is over. */
+    std::vector<std::uint32_t> wait_next_wanted(time within = forever, std::size_t most = 64) {
+        return told(most, [&](auto *to, auto room, auto *count) { return cq_wait_next_wanted(get(), within.count(), to, room, count); });
+    }
+
+    /* A file descriptor for an event loop, which the watch closes. Throws std::system_error if the operating system refuses it. */
+    int fd() {
+        std::int32_t found = -1;
+        std::uint32_t got = cq_watch_fd(get(), &found);
+        if (got == CQ_SYSTEM) refuse(std::system_error(errno, std::generic_category(), "eventfd"));
+        check(got);
+        return found;
+    }
+
+private:
+    template <class Call>
+    static std::vector<std::uint32_t> told(std::size_t most, Call call) {
+        std::vector<std::uint32_t> threads(most);
+        std::uint64_t count = 0;
+        std::uint32_t got = call(threads.data(), threads.size(), &count);
+        if (got != CQ_NONE) check(got);
+        threads.resize(count);
+        return threads;
+    }
+    std::unique_ptr<cq_watch> handle_;
+};
+
 /* A thread of the runtime. When it is destroyed it returns, ends and is given back. So its destructor waits while the thread is
  * suspended. */
 class thread : public holder<cq_thread> {
@@ -338,6 +386,13 @@ public:
         return at;
     }
     void poll() { check(cq_wait_poll(get(), signal())); }
+    // From now on `by` tells when the thread is wanted, and no other watch does.
+    void watch(cebdyraq::watch &by) {
+        settle([&] { return cq_watch_thread(get(), by.get()); });
+    }
+    void unwatch() {
+        settle([&] { return cq_unwatch_thread(get()); });
+    }
     void end() { check(cq_wait_end(get(), signal())); }
 
     bool may_stop() const { return cq_may_stop(get()); }

@@ -2,6 +2,7 @@
 #include <cebdyraq.hpp>
 
 #include <netinet/in.h>
+#include <poll.h>
 #include <sys/socket.h>
 #include <unistd.h>
 
@@ -362,6 +363,45 @@ void test_told_classes() {
     }
 }
 
+bool is_readable(int fd) {
+    pollfd one{fd, POLLIN, 0};
+    return poll(&one, 1, 0) == 1;
+}
+
+/* A thread that polls when a watch tells it to. */
+void test_watch() {
+    using numbers = std::vector<std::uint32_t>;
+    const auto soon = std::chrono::milliseconds(1);
+    cebdyraq::service service(8, 2, 4);
+    auto thread = service.attach_thread("", 5);
+    auto env = service.attach_environment();
+    cebdyraq::watch other, watch;
+    thread.start();
+    env.meet();
+    EXPECT(refused([&] { other.next_wanted(0); }) == cebdyraq::code::illegal_argument);
+    thread.watch(other);
+    thread.watch(watch);
+    EXPECT(watch.next_wanted().empty() && refused([&] { watch.wait_next_wanted(soon); }) == cebdyraq::code::timed_out);
+    EXPECT(refused([&] { env.get_frame_count(0, soon); }) == cebdyraq::code::timed_out);
+    EXPECT(watch.wait_next_wanted() == numbers{0} && other.next_wanted().empty());
+    thread.poll();
+    std::thread runner([&] {
+        EXPECT(watch.wait_next_wanted() == numbers{0});
+        thread.poll();
+    });
+    EXPECT(env.get_frame_count(0) == 0);
+    runner.join();
+    other = std::move(watch);
+    EXPECT(other.next_wanted().empty() && other.fd() == other.fd() && is_readable(other.fd()));
+    EXPECT(other.next_wanted().empty() && !is_readable(other.fd()));
+    EXPECT(refused([&] { env.get_frame_count(0, soon); }) == cebdyraq::code::timed_out);
+    EXPECT(is_readable(other.fd()) && other.next_wanted() == numbers{0});
+    thread.poll();
+    thread.unwatch();
+    EXPECT(refused([&] { env.get_frame_count(0, soon); }) == cebdyraq::code::timed_out);
+    EXPECT(other.next_wanted().empty());
+}
+
 }  // namespace
 
 int main() {
@@ -377,5 +417,6 @@ int main() {
     test_variables();
     test_first_debugger();
     test_told_classes();
+    test_watch();
     return failures;
 }
