@@ -386,7 +386,8 @@ uint32_t cq_frame_count(cq_thread *thread, uint64_t *count) CQ_MUST_USE;
 uint32_t cq_take_pops(cq_thread *thread, uint64_t *count) CQ_MUST_USE;
 
 /* Whether nobody calls for the thread (JEP 312). It is a call with some loads, of which one is atomic, and takes no lock. It is also
- * true of a thread that does not run, and of a handle that is misused. Compiled code may do with one load: cq_poll_word. */
+ * true of a thread that does not run, and of a handle that is misused. Compiled code may do with one load: cq_poll_word. A runtime that
+ * cannot ask is told: cebdyraq_watch.h. */
 bool cq_poll_clear(cq_thread *thread);
 
 /* Writes to `word` where compiled code of the runtime may look in place of cq_poll_clear, and to `mask` which bits it looks at. While

@@ -33,8 +33,8 @@ uint32_t cebdyraq_unwatch_thread(cq_thread *thread);
  * entered. Then the count changes once it is. */
 uint32_t cebdyraq_next_wanted(cq_watch *watch, uint32_t *thread);
 
-/* Writes where the count of news is. It is there as long as a watch is open that has it. Whoever enters a thread into a watch adds one
- * after that, before its call returns. */
+/* Writes where the count of news is. It is there as long as a watch is open that has it. A call that enters a thread into a watch
+ * adds one after that, before it returns. */
 uint32_t cebdyraq_news_of(cq_watch *watch, uint64_t **news);
 
 #endif

@@ -1,25 +1,22 @@
 /* cebdyraq_watch.c: see cebdyraq_watch.h.
  *
- * The proved half keeps the lists of threads that have become wanted. It counts its news: whoever enters a thread into a list adds one
- * after that, before the call returns. All watches of the process have one count. Each call that may enter a thread then looks whether
- * somebody watches (cebdyraq_calls.c), and wakes them. All steps are sequentially consistent, and so are those of the proved half.
+ * The proved half keeps a list of wanted threads for each watch. A call that enters a thread into a list then adds one to the news, before
+ * it returns. All watches of the process have one count of news. Each call that may have entered a thread looks whether somebody watches
+ * (cebdyraq_calls.c), and wakes them. All steps are sequentially consistent, and so are those of the proved half.
  *
- * Why no wake-up is lost. A caller that is about to sleep reads the news, tries, and finds no thread. Then it counts itself, and the
- * futex has it sleep only while the news are what it read. Say that it sleeps, and that a thread is entered which it did not find. That
- * thread's news come after it has read them, and indeed after the futex has compared them. So the caller who brings them then finds it
- * counted, and wakes it, or leaves that to another:
+ * Why no wake-up is lost. A caller that is about to sleep reads the news, and then tries. If it finds no thread, it counts itself, and the
+ * futex puts it to sleep only while the news are what it read. A thread that the try did not find brings its news later. If that is before
+ * the futex compares them, the caller does not sleep. If it is after, the call that brings them finds the sleeper counted, and wakes it.
  *
- * Who is told. One wake is enough for each number of the news, so a caller that finds `last_told` at the present number goes on. Whoever
- * has brought `last_told` there has yet to wake, or has woken after that number was there. A sleeper that sleeps on earlier news was
- * queued at the futex before, and is woken. One that reads that number is none whom this caller has to wake: its thread was entered
- * before, so the try has found it.
+ * One wake is enough for each number of the news. The first call that wakes for a number sets `last_told` to it. Another call that brings
+ * news, and finds `last_told` at the present number, leaves the wake to that one, which has read these news and wakes after that. A
+ * sleeper that they have to wake has slept since before they came, so the wake finds it.
  *
- * A file descriptor is emptied, then armed, and then comes the last try. So a thread that the try does not find is entered after it was
- * armed, and the descriptor is written to, by that caller or by another who wakes for the same number or a later one. What is written
- * after it was armed nobody reads away before the next try.
+ * A file descriptor is emptied, then armed, and then comes one more try. A thread that this try does not find brings its news once the
+ * descriptor is armed, and then somebody writes to it. Nobody empties it before the next try.
  *
- * A caller that wakes others counts itself in `wakers` first, and then reads where the news are. The last watch that is closed takes the
- * place of the news away, waits for these, and only then gives the count's memory back.
+ * A call that wakes others counts itself in `wakers`, and then reads where the news are. When the last watch is closed, that place is
+ * taken away first. Once no such call is left, the count's memory is freed.
  *
  * The locks are taken in this order: that of a watch or that of opening, then that of the list of watches. Nobody sleeps with one. */
 #define _GNU_SOURCE
@@ -61,6 +58,7 @@ static cq_watch root;       /* it watches nothing, and keeps the count that all 
 static pthread_mutex_t of_list = PTHREAD_MUTEX_INITIALIZER;
 static watch *first_watch;
 static uint32_t armed;      /* how many of them are armed; it is changed with the lock of the list */
+static uint32_t asleep;     /* how many callers sleep, or are about to */
 static uint64_t *news;      /* the count, or NULL while no watch is open */
 static uint64_t last_told;  /* the news for which somebody wakes those who sleep */
 static uint32_t wakers;     /* callers that wake others */
@@ -69,7 +67,7 @@ static uint32_t wakers;     /* callers that wake others */
  * Waking.
  */
 
-/* The half of the news that a futex compares. It changes whenever they do. */
+/* The half of the news that a futex compares. It changes whenever they do, and is the same again after 2^32 of them. */
 static uint32_t *low_half(uint64_t *count) {
     return (uint32_t *)count + (__BYTE_ORDER__ == __ORDER_BIG_ENDIAN__);
 }
@@ -83,9 +81,6 @@ static void set_armed(watch *w, bool is_armed) {
 }
 
 static void write_to_armed(void) {
-    if (LOAD(&armed) == 0) {
-        return;
-    }
     pthread_mutex_lock(&of_list);
     for (watch *w = first_watch; w; w = w->next) {
         if (w->is_armed) {
@@ -114,8 +109,8 @@ static void wake_watchers(void) {
     ADD(&wakers, 1);
     uint64_t *count = LOAD(&news);
     if (count && are_untold(count)) {
-        syscall(FUTEX, low_half(count), FUTEX_WAKE_PRIVATE, INT32_MAX, NULL, NULL, 0);
-        write_to_armed();
+        if (LOAD(&asleep) != 0) syscall(FUTEX, low_half(count), FUTEX_WAKE_PRIVATE, INT32_MAX, NULL, NULL, 0);
+        if (LOAD(&armed) != 0) write_to_armed();
     }
     SUB(&wakers, 1);
     errno = kept;
@@ -146,7 +141,7 @@ static void in_child(void) {
     first_watch = NULL;
     root = (cq_watch){ 0 };
     news = NULL;
-    armed = wakers = cebdyraq_watchers.count = 0;
+    armed = asleep = wakers = cebdyraq_watchers.count = 0;
     in_parent();
 }
 
@@ -331,9 +326,11 @@ static int64_t now_ns(void) {
 static void sleep_until(uint64_t *count, uint64_t seen, int64_t end) {
     futex_time until = { end / 1000000000, end % 1000000000 };
     int kept = errno;
+    ADD(&asleep, 1);
     ADD(&cebdyraq_watchers.count, 1);
     syscall(FUTEX, low_half(count), FUTEX_WAIT_BITSET_PRIVATE, (uint32_t)seen, end < 0 ? NULL : &until, NULL, FUTEX_BITSET_MATCH_ANY);
     SUB(&cebdyraq_watchers.count, 1);
+    SUB(&asleep, 1);
     errno = kept;
 }
 

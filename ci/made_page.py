@@ -22,7 +22,7 @@ If several codes fit, a function gives the first of its list, except that BUSY m
 - Each function that takes a {handles} also gives MISUSED, before all others{never}.
 - *Calls at a thread* may also give {in_common}. Where `cebdyraq_wait.h` has the call it waits in place of {waits}.
 - *The call's* are the codes of the call whose answer is collected.
-- A function whose name begins with `cq_wait_` and that is not below gives what its namesake gives, without {ended}, and TIMED_OUT if it takes a time.
+- A `cq_wait_` function that is not below gives what its namesake gives, without {ended}, and TIMED_OUT if it takes a time.
 """
 PART = """
 ### {header}

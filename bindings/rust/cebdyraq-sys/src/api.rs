@@ -489,7 +489,7 @@ impl Default for cq_server {
     }
 }
 
-/// A watch of threads, of one service or of several. Zeros at first, and then for these functions alone. It stays where it is until cq_close_watch.
+/// A watch of threads of one service. Zeros at first, and then for these functions alone. It stays where it is until cq_close_watch.
 #[repr(C)]
 #[derive(Debug)]
 pub struct cq_watch {
