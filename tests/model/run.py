@@ -50,11 +50,16 @@ BOUNDS_OF_FAULTS = ["-m 2000", "-p 1 -m 5000", "-p 1 -b 1 -m 5000", "-p 1 -b 1 -
 # The models as they are, and with a fault: then a search ends in a state in which nobody goes on.
 ONE = ["-DN=1", "-DBLOCKS"]
 RIGHT = [("wait.pml", [*ONE]), ("wait.pml", [*ONE, "-DTIMED"]), ("wait.pml", [*ONE, "-DSUSPENDS"]), ("wait.pml", ["-DN=2"]),
-         ("wait.pml", [*ONE, "-DF_SWALLOW", "-DALONE"]), ("cell.pml", []), ("cell.pml", ["-DOTHER"])]
+         ("wait.pml", [*ONE, "-DF_SWALLOW", "-DALONE"]), ("cell.pml", []), ("cell.pml", ["-DOTHER"]),
+         *(("watch.pml", [*words, *how]) for how in ([], ["-DFD"]) for words in ([], ["-DN=2", "-DPOSTS=1", "-DWATCHED"])),
+         ("watch.pml", ["-DPOSTS=1", "-DWATCHED", "-DAGAIN"]), ("watch.pml", ["-DPOSTS=1", "-DPOLLS"])]
 WRONG = [*(("wait.pml", [*ONE, fault]) for fault in ("-DF_EARLY", "-DF_LATE", "-DF_TRACE", "-DF_SWALLOW")),
          *(("wait.pml", [*ONE, "-DSUSPENDS", fault]) for fault in ("-DF_BIT", "-DF_END")),
          ("wait.pml", ["-DN=2", "-DF_ORDER"]),
-         *(("cell.pml", [fault]) for fault in ("-DF_ADD", "-DF_LOAD", "-DF_QUIET", "-DF_CALLED", "-DF_FREE"))]
+         *(("cell.pml", [fault]) for fault in ("-DF_ADD", "-DF_LOAD", "-DF_QUIET", "-DF_CALLED", "-DF_FREE")),
+         *(("watch.pml", [fault]) for fault in ("-DF_NEWS", "-DF_TOLD", "-DF_WANTED", "-DF_LOOK", "-DF_BEFORE", "-DF_SEEN", "-DF_TAKE", "-DF_WAKERS",
+                                                "-DF_BACK", "-DF_ONCE")),
+         *(("watch.pml", ["-DFD", fault]) for fault in ("-DF_ARM", "-DF_TRY")), ("watch.pml", ["-DPOLLS", "-DF_NEXT"])]
 
 
 def run(command, **more):
