@@ -72,6 +72,17 @@ static uint32_t *low_half(uint64_t *count) {
     return (uint32_t *)count + (__BYTE_ORDER__ == __ORDER_BIG_ENDIAN__);
 }
 
+/* These two are no points at which a thread is cancelled, since it holds a lock. */
+static void write_to(int32_t fd) {
+    uint64_t one = 1;
+    syscall(SYS_write, fd, &one, sizeof one);
+}
+
+static void empty(int32_t fd) {
+    uint64_t written;
+    syscall(SYS_read, fd, &written, sizeof written);
+}
+
 /* With the lock of the list. */
 static void set_armed(watch *w, bool is_armed) {
     uint32_t more = (uint32_t)is_armed - (uint32_t)w->is_armed;
@@ -85,7 +96,7 @@ static void write_to_armed(void) {
     for (watch *w = first_watch; w; w = w->next) {
         if (w->is_armed) {
             set_armed(w, false);
-            eventfd_write(w->fd, 1);
+            write_to(w->fd);
         }
     }
     pthread_mutex_unlock(&of_list);
@@ -287,8 +298,7 @@ static uint32_t take(cq_watch *at, uint32_t *threads, size_t room, uint64_t *cou
 /* Empties the descriptor, and then has the next news written to it. */
 static void arm(watch *w) {
     int kept = errno;
-    eventfd_t written;
-    eventfd_read(w->fd, &written);
+    empty(w->fd);
     errno = kept;
     pthread_mutex_lock(&of_list);
     set_armed(w, true);

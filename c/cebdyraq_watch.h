@@ -41,8 +41,8 @@
  * WHAT IT COSTS
  *
  * While nobody sleeps in a watch, and no file descriptor waits for news, a call of an environment or a door loads one word more. Otherwise
- * the call by which a thread becomes wanted wakes those who sleep, in all watches of the process. They sleep on if it is no thread of
- * theirs.
+ * the call by which a thread becomes wanted wakes those who sleep, in all watches of the process, and takes a lock to write to their file
+ * descriptors. Those who sleep go on to do so if it is no thread of theirs.
  *
  * In the child of a fork no watch is open: each is zeros there, and its file descriptor is closed. It is for Linux.
  */

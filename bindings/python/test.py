@@ -27,6 +27,7 @@ HERE = pathlib.Path(__file__).resolve().parent
 sys.path.append(str(HERE.parent.parent / "ci"))
 
 import cebdyraq
+import lib
 import tap
 from cebdyraq import Capability, Code, Environment, Error, EventKind, Frame, LineEntry, MethodName, StackInfo
 
@@ -35,11 +36,12 @@ C = HERE.parent.parent / "c"
 
 def build(library, include, folder):
     made = pathlib.Path(folder) / "libruntime.so"
+    parts = list(C.glob("*.c")) if library.name == "libti_capi.a" else []
     linked = [str(library), f"-Wl,-rpath,{library.parent}"]
+    if parts:
+        library = lib.with_calls_renamed(library, pathlib.Path(folder))
     if library.suffix == ".a":
-        linked = ["-Wl,--whole-archive", str(library), "-Wl,--no-whole-archive"]
-    if library.name == "libti_capi.a":
-        linked += map(str, C.glob("*.c"))
+        linked = ["-Wl,--whole-archive", str(library), "-Wl,--no-whole-archive", *map(str, parts)]
     subprocess.run([*shlex.split(os.environ.get("CC", "cc")), "-shared", "-fPIC", "-O2", "-std=c11", f"-I{include}", "-o", str(made),
                     str(HERE / "runtime.c"), *linked, "-lpthread"], check=True)
     return made

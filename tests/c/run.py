@@ -211,9 +211,10 @@ def fault_of_order(archive):
     library's order is right, and the same with a race in it is reported."""
     with tempfile.TemporaryDirectory() as name:
         folder = pathlib.Path(name)
-        parts = [built_plain(source, folder) for source in WAIT + HEAP]
+        parts = [built_plain(source, folder) for source in [CALLS] + WAIT + HEAP]
+        parts.append(str(lib.with_calls_renamed(archive, folder)))
         made = str(folder / "ordered")
-        run([compiler(False), *flags(THREAD), "-std=c11", str(HERE / "ordered.c"), *parts, str(archive), "-lpthread", "-o", made], check=True)
+        run([compiler(False), *flags(THREAD), "-std=c11", str(HERE / "ordered.c"), *parts, "-lpthread", "-o", made], check=True)
         environment = dict(os.environ, TSAN_OPTIONS="exitcode=66 suppressions=%s" % (C / "tsan.supp"))
         right, wrong = (run([made, *words], env=environment, timeout=LONGEST) for words in ([], ["race"]))
     passed = (right.returncode, right.stdout) == (0, "") and wrong.returncode == 66 and "in count\n" in wrong.stdout
