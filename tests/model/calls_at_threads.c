@@ -224,4 +224,4 @@ static const scenario all[] = {
     { "disposes", make_one, { post_and_dispose_a, poll_go_native_and_end_0 }, { "agents", "thread 0" } },
     { "disposes_in_time", make_one, { post_and_dispose_in_time_a, poll_go_native_and_end_0 }, { "agents", "thread 0" } },
 };
-const chapter calls_at_threads = { all, sizeof all / sizeof *all };
+const chapter calls_at_threads = { all, sizeof all / sizeof *all, false };

@@ -1,7 +1,8 @@
 /* explore.c: the search through all schedules of each scenario (README.md).
  *
- *     explore [-p PREEMPTIONS] [-b BUSIES] [-e EARLY_ENDS] [-m MOST_RUNS] [-n] [-s] [-t TICK_NS] [-f] [-v] [SCENARIO ..]
+ *     explore [-w] [-p PREEMPTIONS] [-b BUSIES] [-e EARLY_ENDS] [-m MOST_RUNS] [-n] [-s] [-t TICK_NS] [-f] [-v] [SCENARIO ..]
  *
+ *     -w  the scenarios with servers, in place of the others
  *     -n  the news come round in each run        -s  two processors: callers spin first
  *     -f  ends at the first wrong run            -v  tells each step of a wrong run
  *
@@ -16,12 +17,12 @@
 #include <ucontext.h>
 #include <unistd.h>
 
-enum { MOST_CHOICES = 20000, MOST_STEPS = 3000, STACK = 192 * 1024, NOBODY = -1 };
+enum { MOST_CHOICES = 20000, MOST_STEPS = 3000, STACK = 256 * 1024, NOBODY = -1 };
 
 bounds left;
 int64_t time_ns, tick_ns = 1000;
 int processors_there = 1;
-bool is_set_up;
+bool is_set_up, goes_one_way;
 
 /* ------------------------------------------------------------------------------------------------------------------
  * Choices. A run repeats the choices before the last one that could still go another way.
@@ -36,7 +37,7 @@ static void give_up(const char *why) {
 }
 
 int choose(int ways) {
-    if (ways <= 1) return 0;
+    if (ways <= 1 || goes_one_way) return 0;
     if (depth == MOST_CHOICES) give_up("a run has too many choices");
     if (depth == known) {
         path[known].taken = 0;
@@ -66,6 +67,7 @@ typedef struct {
     const uint32_t *word;  /* at which it sleeps */
     uint32_t bits;
     int64_t end;
+    bool is_long;          /* its time does not end its sleep if nobody else can go on */
     bool is_late;          /* its time has ended its sleep */
 } actor;
 
@@ -92,14 +94,14 @@ void fail_with(const char *what, uint32_t code) {
 }
 
 void tell_step(const char *what) {
-    if (tells) printf("    %-9s %s\n", actors[running].name, what);
+    if (tells && !goes_one_way) printf("    %-9s %s\n", actors[running].name, what);
 }
 
 /* The sleeper whose time ends first. */
-static int first_to_end(void) {
+static int first_to_end(bool also_long) {
     int first = NOBODY;
     for (int i = 0; i < actor_count; i++) {
-        bool ends = actors[i].is == ASLEEP && actors[i].end >= 0;
+        bool ends = actors[i].is == ASLEEP && actors[i].end >= 0 && (also_long || !actors[i].is_long);
         if (ends && (first == NOBODY || actors[i].end < actors[first].end)) first = i;
     }
     return first;
@@ -114,7 +116,7 @@ static int list_who_may(int *who, int *ready) {
         if (i != running && actors[i].is == READY && (!goes_on || left.preemptions > 0)) who[count++] = i;
     }
     *ready = count;
-    if ((left.preemptions > 0 || count == 0) && (late = first_to_end()) != NOBODY) who[count++] = late;
+    if ((left.preemptions > 0 || count == 0) && (late = first_to_end(count > 0 || goes_one_way)) != NOBODY) who[count++] = late;
     return count;
 }
 
@@ -145,9 +147,10 @@ void step(const char *what) {
     tell_step(what);
 }
 
-bool sleep_at(const uint32_t *word, uint32_t bits, int64_t end) {
+static bool sleep_for_some(const uint32_t *word, uint32_t bits, int64_t end, bool is_long) {
     actor *self = &actors[running];
     sleeps++;
+    self->is_long = is_long;
     self->word = word;
     self->bits = bits;
     self->end = end;
@@ -156,6 +159,18 @@ bool sleep_at(const uint32_t *word, uint32_t bits, int64_t end) {
     take_turn();
     return self->is_late;
 }
+
+bool sleep_at(const uint32_t *word, uint32_t bits, int64_t end) { return sleep_for_some(word, bits, end, false); }
+
+bool sleep_long_at(const uint32_t *word, int64_t end) { return sleep_for_some(word, 1, end, true); }
+
+uint32_t count_asleep(const uint32_t *word) {
+    uint32_t count = 0;
+    for (int i = 0; i < actor_count; i++) count += actors[i].is == ASLEEP && actors[i].word == word;
+    return count;
+}
+
+int who_runs(void) { return running; }
 
 void wake_at(const uint32_t *word, uint32_t bits) {
     for (int i = 0; i < actor_count; i++) {
@@ -175,17 +190,37 @@ static void act(int number) {
 
 static bounds most;
 static bool news_come_round;
+static uint32_t gate;
+
+void begin_search(void) {
+    goes_one_way = false;
+    left = most;
+    steps = 0;
+    wake_at(&gate, 1);
+}
+
+void end_search(void) {
+    goes_one_way = true;
+    left = (bounds){ 0 };
+}
+
+void await_search(void) {
+    if (goes_one_way) sleep_at(&gate, 1, -1);
+}
 
 static void set_up(const scenario *of) {
     forget_heap();
     forget_service();
     forget_spins();
+    forget_servers();
+    forget_sockets();
+    goes_one_way = false;
     left = (bounds){ 0 };
     is_set_up = true;
     if (news_come_round) the_signal.threads.news = the_signal.agents.news = UINT32_MAX;
     of->set_up();
     is_set_up = false;
-    left = most;
+    if (!goes_one_way) left = most;
 }
 
 static void set_stage(const scenario *of) {
@@ -214,6 +249,7 @@ static void run(const scenario *of) {
     for (int i = 0; i < actor_count; i++) all_gone = all_gone && actors[i].is == GONE;
     if (wrong == NULL && !all_gone) wrong = "a caller sleeps for ever";
     if (wrong == NULL && (the_signal.threads.sleepers || the_signal.agents.sleepers)) wrong = "somebody is counted as a sleeper at the end";
+    if (wrong == NULL && count_looking() > 0) wrong = "somebody is counted as looking for stops at the end";
 }
 
 /* Tells a wrong run once more, step by step. */
@@ -246,22 +282,23 @@ static bool explore(const scenario *of, unsigned long most_runs, bool in_detail)
     return wrong == NULL;
 }
 
-static bool is_asked_for(const char *name, char **words) {
-    bool is_asked = *words == NULL;
-    for (; *words != NULL; words++) is_asked = is_asked || strcmp(*words, name) == 0;
-    return is_asked;
+static bool is_named(const char *name, char **words) {
+    bool is_there = false;
+    for (; *words != NULL; words++) is_there = is_there || strcmp(*words, name) == 0;
+    return is_there;
 }
 
 int main(int count, char **words) {
     unsigned long most_runs = 10000;
-    bool ends_at_first = false, in_detail = false, all_right = true;
-    for (int letter; (letter = getopt(count, words, "p:b:e:m:t:nsfv")) != -1;) {
+    bool ends_at_first = false, in_detail = false, with_servers = false, all_right = true;
+    for (int letter; (letter = getopt(count, words, "p:b:e:m:t:wnsfv")) != -1;) {
         switch (letter) {
         case 'p': most.preemptions = atoi(optarg); break;
         case 'b': most.busies = atoi(optarg); break;
         case 'e': most.early_ends = atoi(optarg); break;
         case 'm': most_runs = strtoul(optarg, NULL, 10); break;
         case 't': tick_ns = atoll(optarg); break;
+        case 'w': with_servers = true; break;
         case 'n': news_come_round = true; break;
         case 's': processors_there = 2; tick_ns = 7000; break;
         case 'f': ends_at_first = true; break;
@@ -273,7 +310,8 @@ int main(int count, char **words) {
     for (size_t i = 0; i < CHAPTERS; i++) {
         for (size_t k = 0; k < chapters[i]->count && (all_right || !ends_at_first); k++) {
             const scenario *of = &chapters[i]->all[k];
-            if (is_asked_for(of->name, words + optind)) all_right = explore(of, most_runs, in_detail) && all_right;
+            bool is_asked_for = words[optind] == NULL ? chapters[i]->has_servers == with_servers : is_named(of->name, words + optind);
+            if (is_asked_for) all_right = explore(of, most_runs, in_detail) && all_right;
         }
     }
     return all_right ? 0 : 1;

@@ -5,7 +5,7 @@
 
 #include "../../c/cebdyraq_wait.h"
 
-enum { MOST_ACTORS = 4 };
+enum { MOST_ACTORS = 5 };
 
 typedef void (*body)(void);
 
@@ -18,7 +18,7 @@ typedef struct {
 } scenario;
 
 /* The scenarios of one file. */
-typedef struct { const scenario *all; size_t count; } chapter;
+typedef struct { const scenario *all; size_t count; bool has_servers; } chapter;
 
 /* What may happen in a run, and how often at most. */
 typedef struct {
@@ -39,6 +39,16 @@ extern int processors_there;
 /* Whether each run's service is being set up: then nothing is a step. */
 extern bool is_set_up;
 
+/* Whether the actors go one way alone, before and behind what is searched. A set-up sets it, and one of the actors begins and ends the
+ * search. Whoever awaits the search sleeps until it begins. */
+extern bool goes_one_way;
+void begin_search(void);
+void end_search(void);
+void await_search(void);
+
+/* The number of the actor that runs. */
+int who_runs(void);
+
 /* Goes one of so many ways. Each run goes another. */
 int choose(int ways);
 
@@ -50,13 +60,24 @@ void fail(const char *why);
 void fail_with(const char *what, uint32_t code);
 void tell_step(const char *what);
 
-/* Sleeps until `word` is woken for one of these bits, or `end` has come; a negative one never does. Returns whether it has. */
+/* Sleeps until `word` is woken for one of these bits, or `end` has come; a negative one never does. Returns whether it has. The end of
+ * a long sleep does not come if nobody else can go on, so whoever needs it sleeps for ever. */
 bool sleep_at(const uint32_t *word, uint32_t bits, int64_t end);
+bool sleep_long_at(const uint32_t *word, int64_t end);
 void wake_at(const uint32_t *word, uint32_t bits);
 
-/* The layer forgets for how long it pays to spin (waits.c), and the heap is empty again (system.c). */
+/* How many sleep at it. */
+uint32_t count_asleep(const uint32_t *word);
+
+/* The layer forgets for how long it pays to spin (waits.c), the heap is empty again (system.c), and there are neither servers (servers.c)
+ * nor sockets (sockets.c). */
 void forget_spins(void);
 void forget_heap(void);
+void forget_servers(void);
+void forget_sockets(void);
 void use_heap(void);
+
+/* How many servers are counted as looking for stops (servers.c). */
+uint32_t count_looking(void);
 
 #endif

@@ -132,4 +132,4 @@ static const scenario all[] = {
     { "news_beside_a_call", make_looked, { news_beside_a_call_a, come_and_go_b }, { "agent a", "agent b" } },
     { "list", make_fresh, { read_list_a, start_end_and_go_0, come_and_go_b }, { "agent a", "thread 0", "agent b" } },
 };
-const chapter news = { all, sizeof all / sizeof *all };
+const chapter news = { all, sizeof all / sizeof *all, false };

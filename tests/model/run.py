@@ -1,5 +1,5 @@
 #!/usr/bin/env python3
-"""Goes through the schedules of the waiting layer, `c/cebdyraq_wait.c`.
+"""Goes through the schedules of the waiting layer, `c/cebdyraq_wait.c`, and of the servers, `c/cebdyraq_serve.c`.
 
     run.py ARCHIVE --gate      the scenarios alone
     run.py ARCHIVE             also with each fault planted (`faults.py`), and the models with theirs, for which it needs spin
@@ -26,9 +26,9 @@ import faults
 import tap
 
 C = TOP / "c"
-WAIT = C / "cebdyraq_wait.c"
-SOURCES = [HERE / name for name in ("explore.c", "system.c", "waits.c", "scenarios.c", "calls_at_threads.c", "traces.c", "stops.c", "news.c")]
-OTHERS = [C / "cebdyraq_heap.c", C / "cebdyraq_classes.c"]
+SCENARIOS = [HERE / f"{name}.c" for name in ("calls_at_threads", "traces", "stops", "news", "serving")]
+SOURCES = [*SCENARIOS, *(HERE / f"{name}.c" for name in ("explore", "system", "sockets", "debuggers", "scenarios", "waits", "servers")),
+           *(C / f"cebdyraq_{name}.c" for name in ("heap", "classes", "variables", "version"))]
 FLAGS = ["-std=gnu11", "-O2", "-Wall", "-Wextra", "-Werror"]
 LONGEST = 600
 
@@ -42,10 +42,21 @@ BOUNDS = [
     "-p 1 -b 1 -m 10000 -n",
     "-p 1 -b 1 -m 20000 -t 70000",
     "-p 1 -b 1 -m 20000 -s",
+    "-w -p 1 -m 30000",
+    "-w -p 2 -m 8000",
+    "-w -p 1 -b 1 -m 4000",
+    "-w -b 3 -m 2000",
+    "-w -p 1 -e 1 -m 4000",
+    "-w -p 1 -b 1 -m 2000 -n",
+    "-w -p 1 -b 1 -m 2000 -t 70000",
+    "-w -p 1 -b 1 -m 2000 -s",
 ]
 
 # A fault is looked for by these, up to the first that finds it.
-BOUNDS_OF_FAULTS = ["-m 2000", "-p 1 -m 5000", "-p 1 -b 1 -m 5000", "-p 1 -b 1 -m 5000 -t 70000", "-p 2 -m 20000"]
+BOUNDS_OF_FAULTS = {
+    "waits": ["-m 2000", "-w -m 200", "-p 1 -m 5000", "-p 1 -b 1 -m 5000", "-p 1 -b 1 -m 5000 -t 70000", "-p 2 -m 20000"],
+    "servers": ["-w -m 2000", "-w -p 1 -m 3000", "-w -p 1 -e 1 -m 3000", "-w -p 2 -m 8000"],
+}
 
 # The models as they are, and with a fault: then a search ends in a state in which nobody goes on.
 ONE = ["-DN=1", "-DBLOCKS"]
@@ -70,11 +81,31 @@ def compiler():
     return shutil.which(os.environ.get("CC", "cc"))
 
 
-def build(archive, wait, made):
-    """Builds the search over this file in place of cebdyraq_wait.c."""
-    done = run([compiler(), *FLAGS, f"-I{C}", f'-DWAIT_C="{wait}"', *SOURCES, *OTHERS, archive, "-lpthread", "-o", made])
+def run_well(command, **more):
+    done = run(command, **more)
     if done.returncode:
         raise SystemExit(done.stdout)
+
+
+def build(archive, folder):
+    """Builds the search in a folder, from objects there."""
+    run_well([compiler(), *FLAGS, f"-I{C}", "-c", *SOURCES], cwd=folder)
+    objects = [folder / f"{source.stem}.o" for source in SOURCES]
+    run_well([compiler(), *objects, archive, "-lpthread", "-o", folder / "explore"])
+
+
+def build_anew(archive, folder, part, source, made):
+    """Builds the search with this file in the place of the one that this part of it includes. It may leave a function unused."""
+    run_well([compiler(), *FLAGS, "-w", f"-I{C}", f'-D{part.upper()}_C="{source}"', "-c", HERE / f"{part}.c", "-o", f"{made}.o"])
+    objects = [folder / f"{source.stem}.o" for source in SOURCES if source.stem != part]
+    run_well([compiler(), *objects, f"{made}.o", archive, "-lpthread", "-o", made])
+
+
+def untried():
+    """The functions of cebdyraq_wait.h that no scenario calls."""
+    names = re.findall(r"^(?:uint32_t|void) (cq_\w+)\(", (C / "cebdyraq_wait.h").read_text(), re.M)
+    text = "".join(source.read_text() for source in SCENARIOS)
+    return [name for name in names if not re.search(rf"\b{name}\(", text)]
 
 
 def search(program, words):
@@ -95,12 +126,12 @@ def explore(told, program):
         tap.comment(f"{words}: {len(lines)} scenarios, {runs} runs")
 
 
-def is_found(archive, name, text, folder):
+def is_found(archive, folder, part, name):
     """Whether the search finds a fault."""
-    source, made = folder / f"{name}.c", folder / name
-    source.write_text(faults.planted(text, name))
-    build(archive, source, made)
-    return any(": WRONG: " in line for words in BOUNDS_OF_FAULTS for line in search(made, words + " -f"))
+    source, made = folder / f"fault_{name}.c", folder / f"fault_{name}"
+    source.write_text(faults.planted((C / faults.PLANTED_IN[part]).read_text(), part, name))
+    build_anew(archive, folder, part, source, made)
+    return any(": WRONG: " in line for words in BOUNDS_OF_FAULTS[part] for line in search(made, words + " -f"))
 
 
 def model_ends_well(model, defines, folder):
@@ -138,12 +169,13 @@ def main(words):
     archive, told = pathlib.Path(words[1]).resolve(), tap.Tap()
     with tempfile.TemporaryDirectory() as name:
         folder = pathlib.Path(name)
-        build(archive, WAIT, folder / "explore")
+        build(archive, folder)
+        told.result("each function of cebdyraq_wait.h is in a scenario", ", ".join(untried()))
         explore(told, folder / "explore")
         if not words[2:]:
-            text = WAIT.read_text()
-            for fault in faults.FAULTS:
-                told.result(f"fault {fault} is found", "" if is_found(archive, fault, text, folder) else "it is not")
+            for part, those in faults.FAULTS.items():
+                for fault in those:
+                    told.result(f"fault {fault} is found", "" if is_found(archive, folder, part, fault) else "it is not")
             check_models(told, folder)
     return told.end()
 

@@ -4,8 +4,8 @@
 
 #include <string.h>
 
-extern const chapter calls_at_threads, traces, stops, news;
-const chapter *const chapters[] = { &calls_at_threads, &traces, &stops, &news };
+extern const chapter calls_at_threads, traces, stops, news, serving;
+const chapter *const chapters[] = { &calls_at_threads, &traces, &stops, &news, &serving };
 
 cq_service service;
 cq_signal the_signal;

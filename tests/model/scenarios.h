@@ -5,7 +5,7 @@
 #include "explore.h"
 
 extern const chapter *const chapters[];
-enum { CHAPTERS = 4 };
+enum { CHAPTERS = 5 };
 
 extern cq_service service;
 extern cq_signal the_signal;

@@ -103,4 +103,4 @@ static const scenario all[] = {
     { "ended_is_news", make_stopped_and_told, { await_news_b, end_stop_a }, { "agent b", "agent a" } },
     { "asked_for_is_news", make_looked, { await_news_b, ask_for_stops_a }, { "agent b", "agent a" } },
 };
-const chapter stops = { all, sizeof all / sizeof *all };
+const chapter stops = { all, sizeof all / sizeof *all, false };

@@ -37,6 +37,7 @@ static long fail_as(int why) {
 static long wait_at(uint32_t *word, uint32_t value, const int64_t *until, uint32_t bits) {
     step("futex wait");
     if (*word != value) return fail_as(EAGAIN);
+    if (((cq_sleepers *)word)->sleepers <= count_asleep(word)) fail("a sleeper is not counted");
     if (left.early_ends > 0 && choose(2) == 1) {
         left.early_ends--;
         return fail_as(EINTR);

@@ -106,4 +106,4 @@ static const scenario all[] = {
     { "tries", make_two, { gather_a, gather_by_steps_b, poll_and_end_by_tries_0, poll_and_end_1 },
       { "agent a", "agent b", "thread 0", "thread 1" } },
 };
-const chapter traces = { all, sizeof all / sizeof *all };
+const chapter traces = { all, sizeof all / sizeof *all, false };

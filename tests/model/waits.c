@@ -1,4 +1,4 @@
-/* waits.c: cebdyraq_wait.c, or the file that WAIT_C names, with steps in place of what it calls. */
+/* waits.c: cebdyraq_wait.c, or the file that WAITS_C names, with steps in place of what it calls. */
 #define _GNU_SOURCE
 #include "../../c/cebdyraq_wait.h"
 
@@ -27,9 +27,9 @@
 #define __atomic_fetch_sub(at, less, order) subtract_from_word((uint32_t *)(at), less, "subtract from " #at)
 #define __atomic_store_n(at, value, order) (*(at) = (value))
 
-#ifndef WAIT_C
-#define WAIT_C "../../c/cebdyraq_wait.c"
+#ifndef WAITS_C
+#define WAITS_C "../../c/cebdyraq_wait.c"
 #endif
-#include WAIT_C
+#include WAITS_C
 
 void forget_spins(void) { of_busy = of_threads = of_agents = (experience){ SPIN_NS, 0 }; }
