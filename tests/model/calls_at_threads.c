@@ -86,18 +86,13 @@ static void make_cancelled(void) {
 static void take_back_in_time_a(void) {
     int64_t began = time_ns;
     uint32_t code = cq_wait_ensure_resumed(&a, &the_signal, 0, 150000);
-    may_give("cq_wait_ensure_resumed", code, CQ_TIMED_OUT, CQ_THREAD_NOT_ALIVE);
-    if (code == CQ_TIMED_OUT) {
-        check_time(began, 150000);
-        take_back(&a);
-    }
+    if (was_over("cq_wait_ensure_resumed", code, began, 150000, CQ_THREAD_NOT_ALIVE)) take_back(&a);
 }
 
 static void suspend_in_time_a(void) {
     int64_t began = time_ns;
     uint32_t code = cq_wait_suspend_thread(&a, &the_signal, 0, 200000);
-    if (code != CQ_THREAD_SUSPENDED) may_give("suspend", code, CQ_TIMED_OUT, CQ_THREAD_NOT_ALIVE);
-    if (code == CQ_TIMED_OUT) check_time(began, 200000);
+    if (code != CQ_THREAD_SUSPENDED) was_over("suspend", code, began, 200000, CQ_THREAD_NOT_ALIVE);
     if (code != CQ_THREAD_NOT_ALIVE) take_back(&a);
 }
 
@@ -105,11 +100,7 @@ static void block_and_return_in_time_0(void) {
     OK(cq_wait_block(&t0, &the_signal, CQ_PARK));
     int64_t began = time_ns;
     uint32_t code = cq_wait_back(&t0, &the_signal, 300000);
-    may_give("cq_wait_back", code, CQ_TIMED_OUT, CQ_TIMED_OUT);
-    if (code == CQ_TIMED_OUT) {
-        check_time(began, 300000);
-        OK(cq_wait_back(&t0, &the_signal, FOREVER_NS));
-    }
+    if (was_over("cq_wait_back", code, began, 300000, CQ_OK)) OK(cq_wait_back(&t0, &the_signal, FOREVER_NS));
     OK(cq_wait_end(&t0, &the_signal));
 }
 
@@ -120,6 +111,17 @@ static void learn_a(void) {
     for (int i = 0; i < 2; i++) {
         OK_OR_EITHER(CQ_THREAD_NOT_ALIVE, CQ_THREAD_SUSPENDED,
                      cq_wait_collect_cancelled(&a, &the_signal, 0, FOREVER_NS, &answer, &frame, 0));
+    }
+    take_back(&a);
+}
+
+static void learn_in_time_a(void) {
+    cq_answer answer;
+    cq_frame frame;
+    for (int i = 0; i < 2; i++) {
+        int64_t began = time_ns;
+        uint32_t code = cq_wait_collect_cancelled(&a, &the_signal, 0, 90000, &answer, &frame, 0);
+        if (code != CQ_THREAD_SUSPENDED) was_over("cq_wait_collect_cancelled", code, began, 90000, CQ_THREAD_NOT_ALIVE);
     }
     take_back(&a);
 }
@@ -139,6 +141,18 @@ static void post_and_collect_a(void) {
     }
 }
 
+static void collect_in_time_a(void) {
+    cq_answer answer;
+    cq_frame frame;
+    if (cq_get_frame_count(&a, 0, &answer) != CQ_WAITING) return;
+    cq_ticket ticket = answer.ticket;
+    int64_t began = time_ns;
+    uint32_t code = cq_wait_collect(&a, &the_signal, &ticket, 80000, &answer, &frame, 0);
+    if (was_over("cq_wait_collect", code, began, 80000, CQ_THREAD_NOT_ALIVE)) {
+        OK_OR(CQ_THREAD_NOT_ALIVE, cq_wait_collect(&a, &the_signal, &ticket, FOREVER_NS, &answer, &frame, 0));
+    }
+}
+
 /* A window that is full with a call that was cancelled. The thread hands over once, and does nothing further. */
 static void count_a(void) {
     uint32_t count;
@@ -149,8 +163,13 @@ static void count_in_time_a(void) {
     uint32_t count, code;
     int64_t began = time_ns;
     code = cq_wait_get_frame_count(&a, &the_signal, 0, 120000, &count);
-    may_give("cq_wait_get_frame_count", code, CQ_TIMED_OUT, CQ_THREAD_NOT_ALIVE);
-    if (code == CQ_TIMED_OUT) check_time(began, 120000);
+    was_over("cq_wait_get_frame_count", code, began, 120000, CQ_THREAD_NOT_ALIVE);
+}
+
+/* The same beside two suspensions that were cancelled. */
+static void count_and_take_back_in_time_a(void) {
+    count_in_time_a();
+    take_back_in_time_a();
 }
 
 static void go_native_0(void) {
@@ -173,6 +192,20 @@ static void suspend_and_resume_list_a(void) {
     OK(cq_wait_suspend_thread_list(&a, &the_signal, list, 3, FOREVER_NS, codes));
     OK(cq_wait_resume_thread_list(&a, &the_signal, list, 2, FOREVER_NS, codes));
 }
+
+/* The same with a time. What was posted, and what was cancelled before, may take place all the same. */
+static void suspend_list_in_time(const uint32_t *list, size_t count) {
+    uint32_t codes[3];
+    int64_t began = time_ns;
+    OK(cq_wait_suspend_thread_list(&a, &the_signal, list, count, 110000, codes));
+    for (size_t i = 0; i < count; i++) {
+        if (codes[i] != CQ_THREAD_SUSPENDED) was_over("cq_wait_suspend_thread_list", codes[i], began, 110000, CQ_THREAD_NOT_ALIVE);
+    }
+    for (size_t i = 0; i < count; i++) OK_OR(CQ_THREAD_NOT_ALIVE, cq_wait_ensure_resumed(&a, &the_signal, list[i], FOREVER_NS));
+}
+
+static void suspend_list_in_time_a(void) { suspend_list_in_time((const uint32_t[]){ 0, 1, 0 }, 3); }
+static void suspend_thread_in_time_a(void) { suspend_list_in_time((const uint32_t[]){ 0 }, 1); }
 
 static void make_narrow(void) {
     make(1, 2, 1);
@@ -214,12 +247,20 @@ static const scenario all[] = {
     { "cancelled", make_cancelled, { take_back_a, poll_go_native_and_end_0 }, { "agent a", "thread 0" } },
     { "cancelled_in_time", make_cancelled, { take_back_in_time_a, suspend_and_resume_b, block_and_return_in_time_0 },
       { "agent a", "agent b", "thread 0" } },
+    { "counts_in_time", make_cancelled, { count_and_take_back_in_time_a, block_and_return_in_time_0 }, { "agent a", "thread 0" } },
+    { "suspends_in_time", make_cancelled, { suspend_thread_in_time_a, suspend_and_resume_b, block_and_return_in_time_0 },
+      { "agent a", "agent b", "thread 0" } },
+    { "learns_in_time", make_cancelled, { learn_in_time_a, suspend_and_resume_b, poll_and_end_0 },
+      { "agent a", "agent b", "thread 0" } },
     { "learns", make_cancelled, { learn_a, poll_and_end_0 }, { "agent a", "thread 0" } },
     { "collects", make_one, { post_and_collect_a, poll_go_native_and_end_0 }, { "agent a", "thread 0" } },
+    { "collects_in_time", make_one, { collect_in_time_a, suspend_and_resume_b, poll_go_native_and_end_0 },
+      { "agent a", "agent b", "thread 0" } },
     { "full", make_full, { count_a, go_native_0 }, { "agent a", "thread 0" } },
     { "full_in_time", make_full, { count_in_time_a, go_native_0 }, { "agent a", "thread 0" } },
     { "lists", make_narrow, { suspend_and_resume_list_a, poll_go_native_and_end_0, poll_go_native_and_end_1 },
       { "agent a", "thread 0", "thread 1" } },
+    { "lists_in_time", make_narrow, { suspend_list_in_time_a, poll_and_end_0, poll_and_end_1 }, { "agent a", "thread 0", "thread 1" } },
     { "times", make_one, { suspend_in_time_a, suspend_and_resume_b, block_and_return_in_time_0 }, { "agent a", "agent b", "thread 0" } },
     { "disposes", make_one, { post_and_dispose_a, poll_go_native_and_end_0 }, { "agents", "thread 0" } },
     { "disposes_in_time", make_one, { post_and_dispose_in_time_a, poll_go_native_and_end_0 }, { "agents", "thread 0" } },

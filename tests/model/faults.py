@@ -1,7 +1,7 @@
 """Wrong versions of cebdyraq_wait.c and cebdyraq_serve.c, each as replacements of text that stands there once. One makes the count of
-sleepers fall below 0 (`leaves_twice`), two leave somebody counted (`never_leaves`, `looks_for_ever`), one ends waits too early
-(`times_out_early`), and one writes to a descriptor that is closed (`closed_while_woken`). By each of the others some caller sleeps, or naps,
-for ever."""
+sleepers fall below 0 (`leaves_twice`), three leave somebody counted (`never_leaves`, `stays_after_its_time`, `looks_for_ever`), one ends
+waits too early (`times_out_early`), and one writes to a descriptor that is closed (`closed_while_woken`). By each of the others some
+caller sleeps, or naps, for ever."""
 
 OK_WAKES_THREAD = "        wake(&signal->threads, bit_of(thread));  /* it may return now */\n"
 
@@ -15,6 +15,8 @@ OF_WAITS = {
                                       "    if (w->counted) {\n        see_news(w);\n        sleep_on(w, now);")],
     "news_unchanged": [("    __atomic_fetch_add(&among->news, 1, __ATOMIC_SEQ_CST);\n", "")],
     "no_nap": [("    if (w->code == CQ_BUSY && (end", "    if (0 && (end")],
+    "stays_after_its_time": [("        w->code = CQ_TIMED_OUT;\n        leave(w);", "        w->code = CQ_TIMED_OUT;")],
+    "cancels_nothing_after_its_time": [("        cq_wait_cancel(env, w->signal, ticket);\n", "")],
     "times_out_early": [("now - w->began >= w->timeout) {", "now - w->began >= w->timeout / 2) {")],
     # Wakes that come before the call.
     "wakes_before_the_call": [
@@ -53,9 +55,11 @@ OF_WAITS = {
     "full_though_not_discarded": [("return code == CQ_FULL && discarding == CQ_BUSY ? CQ_BUSY : code;", "(void)discarding;\n    return code;")],
     # Servers that are not woken.
     "no_wake_of_servers": [("    if (cebdyraq_wake_servers) cebdyraq_wake_servers(signal);\n", "")],
-    "no_wake_of_servers_by_wake": [("    wake_for_stop(signal, FUTEX_BITSET_MATCH_ANY);\n}", "    wake(&signal->agents, FUTEX_BITSET_MATCH_ANY);\n}")],
+    "no_wake_of_servers_by_wake": [("    wake_for_stop(signal, FUTEX_BITSET_MATCH_ANY);\n}",
+                                    "    wake(&signal->agents, FUTEX_BITSET_MATCH_ANY);\n}")],
 }
 
+WRITES = "            set_looks(s, false);\n            wake_thread(s);"
 LOOKS = "        look_for_stops(s, s->is_for_debuggers && awaits(at.due, now_ns()));\n"
 DRAINS = "    while (is_woken && eventfd_read(s->waker, &count) && errno == EINTR) {\n    }\n"
 NO_DRAIN = (DRAINS, "    (void)count, (void)is_woken;\n")
@@ -66,13 +70,13 @@ GIVES_ORDERS = "    pthread_mutex_unlock(&s->lock);\n    return goes_on;"
 
 OF_SERVERS = {
     # A stop that wakes nobody, or too few.
-    "no_write": [("            set_looks(s, false);\n            wake_thread(s);", "            set_looks(s, false);")],
-    "wakes_first_server_alone": [("            set_looks(s, false);\n            wake_thread(s);", "            set_looks(s, false);\n            wake_thread(s);\n            break;")],
+    "no_write": [(WRITES, "            set_looks(s, false);")],
+    "wakes_first_server_alone": [(WRITES, WRITES + "\n            break;")],
     "wakes_itself_alone": [("!pthread_equal(s->thread, pthread_self())", "pthread_equal(s->thread, pthread_self())")],
     "write_is_interrupted": [("    while (eventfd_write(s->waker, 1) && errno == EINTR) {\n    }", "    (void)!eventfd_write(s->waker, 1);")],
     # Who is counted, and when it looks.
     "does_not_look": [(LOOKS, "")],
-    "looks_for_ever": [("    set_looks(s, false);\n    pthread_mutex_unlock(&of_servers);\n}\n\nvoid", "    pthread_mutex_unlock(&of_servers);\n}\n\nvoid")],
+    "looks_for_ever": [("    *at = s->next;\n    set_looks(s, false);\n", "    *at = s->next;\n")],
     "does_not_poll_its_waker": [("(struct pollfd){ s->waker, POLLIN, 0 };", "(struct pollfd){ -1, POLLIN, 0 };")],
     "drains_after_its_look": [NO_DRAIN, (LOOKS, LOOKS + DRAIN)],
     "drains_after_its_tick": [NO_DRAIN, (TICKS, TICKS.replace("        bool", DRAIN + "        bool"))],
@@ -85,7 +89,8 @@ OF_SERVERS = {
     "tells_no_resumption": [("    s->is_resumed = true;\n    pthread_cond_broadcast(&s->news);", "    s->is_resumed = true;")],
     # Classes.
     "class_wakes_nobody": [("        uint64_t call = ++s->asked;\n        wake_thread(s);", "        uint64_t call = ++s->asked;")],
-    "tells_nobody_of_a_class": [("    bool is_asked = s->asked != asked;\n    pthread_cond_broadcast(&s->news);", "    bool is_asked = s->asked != asked;")],
+    "tells_nobody_of_a_class": [("    bool is_asked = s->asked != asked;\n    pthread_cond_broadcast(&s->news);",
+                                 "    bool is_asked = s->asked != asked;")],
     "forgets_who_asked_meanwhile": [("    return note_told(s, asked) ? now : NEVER;", "    note_told(s, asked);\n    return NEVER;")],
     # The end.
     "end_wakes_nobody": [("    s->is_ending = true;\n    wake_thread(s);", "    s->is_ending = true;")],

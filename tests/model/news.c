@@ -19,6 +19,14 @@ static void take_events_until(uint32_t kind) {
 
 static void take_events_a(void) { take_events_until(CQ_THREAD_DETACHED); }
 
+static void take_event_in_time_a(void) {
+    cq_event event;
+    int64_t began = time_ns;
+    uint32_t code = cq_wait_next_event(&a, &the_signal, 60000, &event);
+    was_over("cq_wait_next_event", code, began, 60000, CQ_OK);
+    take_events_a();
+}
+
 static void come_and_go_1(void) {
     OK(cq_wait_attach_thread(&service, &the_signal, (const uint8_t *)"t", 1, 0, &t1));
     OK(cq_wait_start(&t1, &the_signal, FOREVER_NS));
@@ -42,12 +50,14 @@ static void define_class(void) {
 }
 
 /* An answer or news, whichever comes first. */
-static uint32_t any_of(const cq_ticket *tickets, size_t count) {
+static uint32_t any_within(const cq_ticket *tickets, size_t count, int64_t time) {
     size_t which;
     cq_answer answer;
     cq_frame frame;
-    return cq_wait_any(&a, &the_signal, tickets, count, FOREVER_NS, &which, &answer, &frame, 0);
+    return cq_wait_any(&a, &the_signal, tickets, count, time, &which, &answer, &frame, 0);
 }
+
+static uint32_t any_of(const cq_ticket *tickets, size_t count) { return any_within(tickets, count, FOREVER_NS); }
 
 static void make_one_agent(void) {
     make(2, 1, 1);
@@ -61,6 +71,18 @@ static void answer_or_news_a(void) {
     cq_ticket ticket = answer.ticket;
     while ((code = any_of(&ticket, 1)) == CQ_NONE) OK(cq_wait_meet(&a, &the_signal));
     OK_OR(CQ_THREAD_NOT_ALIVE, code);
+}
+
+static void answer_in_time_a(void) {
+    cq_answer answer;
+    if (cq_get_frame_count(&a, 0, &answer) != CQ_WAITING) return;
+    cq_ticket ticket = answer.ticket;
+    int64_t began = time_ns;
+    uint32_t code = any_within(&ticket, 1, 60000);
+    if (code == CQ_NONE || was_over("cq_wait_any", code, began, 60000, CQ_THREAD_NOT_ALIVE)) {
+        while ((code = any_of(&ticket, 1)) == CQ_NONE) OK(cq_wait_meet(&a, &the_signal));
+        OK_OR(CQ_THREAD_NOT_ALIVE, code);
+    }
 }
 
 static void come_and_go_b(void) {
@@ -123,8 +145,10 @@ static void read_list_a(void) {
 
 static const scenario all[] = {
     { "events", make_events, { take_events_a, start_end_and_go_0, come_and_go_1 }, { "agent a", "thread 0", "thread 1" } },
+    { "events_in_time", make_events, { take_event_in_time_a, start_end_and_go_0 }, { "agent a", "thread 0" } },
     { "classes", make_for_classes, { take_class_a, define_class, start_end_and_go_0 }, { "agent a", "definer", "thread 0" } },
     { "any", make_one_agent, { answer_or_news_a, poll_and_end_0, come_and_go_b }, { "agent a", "thread 0", "agent b" } },
+    { "any_in_time", make_one_agent, { answer_in_time_a, poll_and_end_0, come_and_go_b }, { "agent a", "thread 0", "agent b" } },
     { "news", make_nothing, { news_a, come_and_go_b }, { "agent a", "agent b" } },
     { "given_back", make_fresh, { news_a, give_back_0 }, { "agent a", "thread 0" } },
     { "met", make_unmet, { news_a, meet_b }, { "agent a", "agent b" } },

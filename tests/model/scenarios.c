@@ -31,6 +31,12 @@ void check_time(int64_t began, int64_t least) {
     if (time_ns - began < least) fail("a time-out comes too early");
 }
 
+bool was_over(const char *what, uint32_t code, int64_t began, int64_t least, uint32_t other) {
+    may_give(what, code, CQ_TIMED_OUT, other);
+    if (code == CQ_TIMED_OUT) check_time(began, least);
+    return code == CQ_TIMED_OUT;
+}
+
 void nap(void) {
     static const uint32_t nothing;
     step("nap");

@@ -33,6 +33,9 @@ void may_give(const char *what, uint32_t code, uint32_t this, uint32_t other);
 /* A time-out comes no earlier than that. */
 void check_time(int64_t began, int64_t least);
 
+/* Whether a call whose time began then was over before it was done. Otherwise it gave CQ_OK, or the other code. */
+bool was_over(const char *what, uint32_t code, int64_t began, int64_t least, uint32_t other);
+
 /* A wait of 50 microseconds that nobody ends, as the layer's own after CQ_BUSY. */
 void nap(void);
 

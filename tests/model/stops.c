@@ -38,6 +38,13 @@ static void next_stop_a(void) {
     OK(cq_wait_next_stop(&a, &the_signal, FOREVER_NS, &stop));
 }
 
+static void next_stop_in_time_a(void) {
+    cq_stop stop;
+    int64_t began = time_ns;
+    uint32_t code = cq_wait_next_stop(&a, &the_signal, 60000, &stop);
+    if (was_over("cq_wait_next_stop", code, began, 60000, CQ_OK)) next_stop_a();
+}
+
 static void reach_and_block_0(void) {
     bool stops = false;
     OK(cq_wait_reached(&t0, &the_signal, 1, 0, &stops));
@@ -97,6 +104,7 @@ static void ask_for_stops_a(void) {
 static const scenario all[] = {
     { "stops", make_both_told, { take_stop_a, dispose_b, stop_and_end_0 }, { "agent a", "agent b", "thread 0" } },
     { "reached", make_told, { next_stop_a, reach_and_block_0 }, { "agent a", "thread 0" } },
+    { "reached_in_time", make_told, { next_stop_in_time_a, reach_and_block_0 }, { "agent a", "thread 0" } },
     { "leaves", make_told_of_ends, { next_stop_a, leave_and_block_0 }, { "agent a", "thread 0" } },
     { "reached_is_news", make_looked, { await_news_b, reach_and_block_0 }, { "agent b", "thread 0" } },
     { "told_is_news", make_stopped, { await_news_b, next_stop_a }, { "agent b", "agent a" } },

@@ -19,6 +19,13 @@ static void gather_all_a(void) {
     OK(cq_wait_get_all_stack_traces(&a, &the_signal, 4, FOREVER_NS, &count));
 }
 
+static void gather_all_in_time_a(void) {
+    uint64_t count;
+    int64_t began = time_ns;
+    uint32_t code = cq_wait_get_all_stack_traces(&a, &the_signal, 4, 100000, &count);
+    if (was_over("cq_wait_get_all_stack_traces", code, began, 100000, CQ_OK)) gather_all_a();
+}
+
 /* Threads that start while they are stopped. */
 static void make_fresh(void) {
     make(2, 2, 2);
@@ -28,11 +35,7 @@ static void make_fresh(void) {
 static void start_in_time_0(void) {
     int64_t began = time_ns;
     uint32_t code = cq_wait_start(&t0, &the_signal, 100000);
-    may_give("cq_wait_start", code, CQ_TIMED_OUT, CQ_TIMED_OUT);
-    if (code == CQ_TIMED_OUT) {
-        check_time(began, 100000);
-        OK(cq_wait_start(&t0, &the_signal, FOREVER_NS));
-    }
+    if (was_over("cq_wait_start", code, began, 100000, CQ_OK)) OK(cq_wait_start(&t0, &the_signal, FOREVER_NS));
     OK(cq_wait_end(&t0, &the_signal));
 }
 
@@ -98,6 +101,7 @@ static const scenario all[] = {
     { "gathers_in_time", make_two, { gather_in_time_a, gather_b, poll_and_end_0, poll_and_end_1 },
       { "agent a", "agent b", "thread 0", "thread 1" } },
     { "gathers_all", make_two, { gather_all_a, gather_b, poll_and_end_0, poll_and_end_1 }, { "agent a", "agent b", "thread 0", "thread 1" } },
+    { "gathers_all_in_time", make_two, { gather_all_in_time_a, poll_and_end_0, poll_and_end_1 }, { "agent a", "thread 0", "thread 1" } },
     { "starts", make_fresh, { gather_a, start_end_and_go_0, poll_and_end_1 }, { "agent a", "thread 0", "thread 1" } },
     { "starts_in_time", make_fresh, { gather_a, start_in_time_0, poll_and_end_1 }, { "agent a", "thread 0", "thread 1" } },
     { "standing", make_standing, { gather_a, gather_b }, { "agent a", "agent b" } },
