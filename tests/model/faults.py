@@ -9,6 +9,8 @@ OF_WAITS = {
     # Who is counted and when the news are read.
     "not_counted": [("        __atomic_fetch_add(&w->among->sleepers, 1, __ATOMIC_SEQ_CST);\n        w->counted = true;",
                      "        w->counted = true;")],
+    "goes_on_uncounted": [("    if (w->counted) {\n        sleep_on(w, now);\n",
+                           "    if (w->counted || w->spin < 0) {\n        sleep_on(w, now);\n        leave(w);\n        w->spin = -1;\n")],
     "leaves_twice": [("SEQ_CST);\n        w->counted = false;", "SEQ_CST);")],
     "never_leaves": [("    comes_on(w);\n    leave(w);", "    comes_on(w);")],
     "news_read_after_the_last_try": [("    if (w->counted) {\n        sleep_on(w, now);",
