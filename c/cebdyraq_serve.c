@@ -65,6 +65,7 @@ typedef struct __attribute__((may_alias)) server {
     cq_variables variables;                      /* by which a debugger's questions are answered, or zeros */
     bool pops_frames;                            /* a debugger may pop frames */
     bool starts_suspended;                       /* the first debugger finds all threads suspended */
+    bool awaits_first;                           /* no debugger has greeted yet, and the first one finds that */
     bool is_for_debuggers;                       /* it listens for them, or did so last */
     bool runs;
     bool looks;                                  /* for stops. It is under the lock of all servers, as is what follows */
@@ -227,15 +228,23 @@ static int set_socket(server *s, uint32_t connection, int socket) {
     return before;
 }
 
-static void drop(server *s, uint32_t connection) {
+/* Ends a connection at the door. One that has not greeted was no debugger: the next one may be the first. */
+static void disconnect(server *s, uint32_t connection) {
     cq_door_disconnect(&s->door, connection);
+    if (s->awaits_first) {
+        cq_door_starts_suspended(&s->door, true);
+    }
+}
+
+static void drop(server *s, uint32_t connection) {
+    disconnect(s, connection);
     int socket = set_socket(s, connection, -1);
     close_socket(&socket);
 }
 
 /* Ends a connection that the door has closed. */
 static void leave(server *s, uint32_t connection, uint64_t now) {
-    cq_door_disconnect(&s->door, connection);
+    disconnect(s, connection);
     let_leave(s, set_socket(s, connection, -1), now);
 }
 
@@ -256,6 +265,7 @@ static bool write_some(server *s, uint32_t connection) {
     cq_door_written(&s->door, connection, (uint64_t)taken, now_ns());
     s->paces[connection].taken += (uint64_t)taken;
     s->greets_by = NEVER;
+    s->awaits_first = false;
     return true;
 }
 
@@ -406,7 +416,7 @@ static bool take_in(server *s) {
     }
     close_socket(&socket);
     if (has_place) {
-        cq_door_disconnect(&s->door, connection);
+        disconnect(s, connection);
     }
     return !is_refused;
 }
@@ -734,6 +744,7 @@ static uint32_t open_door(server *s, cq_service *service, const opening *of) {
     cq_door_tells_variables(&s->door, s->variables.of_method != NULL);
     cq_door_pops_frames(&s->door, s->pops_frames);
     cq_door_starts_suspended(&s->door, s->starts_suspended);
+    s->awaits_first = s->starts_suspended;
     return code;
 }
 

@@ -341,8 +341,9 @@ uint32_t cq_server_variables(cq_server *server, const cq_variables *variables) C
 uint32_t cq_server_pops_frames(cq_server *server, bool pops) CQ_MUST_USE;
 
 /* Says of a server that does not serve yet whether the runtime waits for its first debugger, as cq_door_starts_suspended does, whenever
- * it listens for debuggers from then on. The runtime starts its threads before it listens. Each of them blocks before its first step
- * (cq_wait_block), and comes back after cq_server_await_resumption. CQ_MISUSED 304: it serves; nothing changes. */
+ * it listens for debuggers from then on. Whoever connects and does not greet is no debugger: the runtime waits on. The runtime starts
+ * its threads before it listens. Each of them blocks before its first step (cq_wait_block), and comes back after
+ * cq_server_await_resumption. CQ_MISUSED 304: it serves; nothing changes. */
 uint32_t cq_server_starts_suspended(cq_server *server, bool suspended) CQ_MUST_USE;
 
 /* Sleeps until a debugger has resumed a thread, or the server has ended. A debugger that goes has resumed what it suspended. CQ_MISUSED

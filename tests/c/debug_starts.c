@@ -102,6 +102,23 @@ static void begins_once_it_is_resumed(void) {
     finish();
 }
 
+/* Two that do not greet come before it: one says nothing, and one says something else. */
+static void begins_for_the_first_that_greets(void) {
+    begin();
+    close(dial(&server));
+    int wrong = dial(&server);
+    say(wrong, "JDWP-Handshook");
+    CHECK(is_closed(wrong));
+    close(wrong);
+    int socket = attach_first();
+    usleep(50000);
+    CHECK(!atomic_load(&began));
+    asks_at(socket, 1, 9, "", 0, "");
+    await_beginning();
+    close(socket);
+    finish();
+}
+
 static void begins_once_the_debugger_has_gone(void) {
     begin();
     int socket = attach_first();
@@ -135,6 +152,7 @@ static void refuses_servers_for_others(void) {
 
 void starts_suspended(void) {
     begins_once_it_is_resumed();
+    begins_for_the_first_that_greets();
     begins_once_the_debugger_has_gone();
     begins_once_the_server_has_ended();
     refuses_servers_for_others();

@@ -89,6 +89,7 @@ OF_SERVERS = {
                                 ("        drop_silent(s);\n", "        drop_silent(s);\n        wake_resumed(s);\n")],
     "notes_no_resumption": [(NOTES, "        wake_all(s);")],
     "tells_no_resumption": [("    s->is_resumed = true;\n    pthread_cond_broadcast(&s->news);", "    s->is_resumed = true;")],
+    "takes_anybody_for_the_first": [("    if (s->awaits_first) {\n        cq_door_starts_suspended(&s->door, true);\n    }\n", "")],
     # Classes.
     "class_wakes_nobody": [("        uint64_t call = ++s->asked;\n        wake_thread(s);", "        uint64_t call = ++s->asked;")],
     "tells_nobody_of_a_class": [("    bool is_asked = s->asked != asked;\n    pthread_cond_broadcast(&s->news);",

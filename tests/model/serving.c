@@ -16,6 +16,7 @@ static debugger one, other;
 
 static int running;    /* threads */
 static uint32_t over;  /* at which their ends are awaited */
+static bool may_go_on; /* the debugger has resumed the threads that wait for it, or it or the server goes */
 
 static void define(const char *signature, size_t methods) {
     static const cq_method_strings method = { .name = "run", .signature = "", .lines_kind = CQ_LINES_LOCATIONS, .first_line = 1 };
@@ -29,6 +30,7 @@ static void make_threads(int count) {
     make(2, count, 0);
     memset(servers, 0, sizeof servers);
     running = count;
+    may_go_on = false;
     define("La;", 1);
     for (int i = 0; i < count; i++) {
         OK(cq_start(threads[i]));
@@ -87,13 +89,18 @@ static void run_by_tries_0(void) {
     end_thread(&t0);
 }
 
+static void come_back_and_end(cq_thread *thread) {
+    OK(cq_wait_back(thread, &the_signal, FOREVER_NS));
+    if (!may_go_on) fail("a thread goes on before it may");
+    end_thread(thread);
+}
+
 static void load_and_end(cq_thread *thread, const char *class) {
     await_search();
     define(class, 0);
     OK(cq_wait_block(thread, &the_signal, CQ_PARK));
     OK(cq_server_tell_classes(&servers[0]));
-    OK(cq_wait_back(thread, &the_signal, FOREVER_NS));
-    end_thread(thread);
+    come_back_and_end(thread);
 }
 
 static void load_0(void) { load_and_end(&t0, "Lb;"); }
@@ -110,8 +117,7 @@ static void begin_suspended_0(void) {
     OK(cq_wait_block(&t0, &the_signal, CQ_PARK));
     await_search();
     OK(cq_server_await_resumption(&servers[0]));
-    OK(cq_wait_back(&t0, &the_signal, FOREVER_NS));
-    end_thread(&t0);
+    come_back_and_end(&t0);
 }
 
 /* ------------------------------------------------------------------------------------------------------------------
@@ -325,39 +331,75 @@ static void debug_and_end_other(void) {
 static void take_class(void) {
     begin_with(CLASSES);
     await_event(&one);
+    may_go_on = true;
+    resume_all(&one);
+    finish();
+}
+
+/* While the threads are suspended for one class, the other one waits. */
+static void take_two_classes(void) {
+    begin_with(CLASSES);
+    await_event(&one);
+    may_go_on = true;
+    resume_all(&one);
+    await_event(&one);
     resume_all(&one);
     finish();
 }
 
 static void take_none(void) {
     begin_attached();
+    may_go_on = true;
     finish();
 }
 
 static void go_before_class(void) {
     begin_with(CLASSES);
+    may_go_on = true;
     hang_up(one.at);
     finish();
 }
 
 static void end_before_class(void) {
     begin_with(CLASSES);
+    may_go_on = true;
     end_server(0);
 }
 
-/* A runtime that waits for its first debugger. */
-static void attach_first(void) {
+/* A runtime that waits for its first debugger, which others may come before: one that says nothing, and one who may not debug. */
+static void begin_awaiting(void) {
     OK(cq_server_starts_suspended(&servers[0], true));
     begin_unattached();
+}
+
+static void attach_first(void) {
     attach(&one, 0, WIDE);
     await_event(&one);
+    may_go_on = true;
     resume_all(&one);
     finish();
 }
 
+static void come_first(void) {
+    begin_awaiting();
+    attach_first();
+}
+
+static void come_after_a_probe(void) {
+    begin_awaiting();
+    hang_up(dial(0, WIDE));
+    attach_first();
+}
+
+static void come_after_a_stranger(void) {
+    begin_awaiting();
+    dial_as_stranger(0);
+    attach_first();
+}
+
 static void end_before_first(void) {
-    OK(cq_server_starts_suspended(&servers[0], true));
-    begin_unattached();
+    begin_awaiting();
+    may_go_on = true;
     end_server(0);
 }
 
@@ -387,10 +429,13 @@ static const scenario all[] = {
     { "stop_told_to_one", make_runtime, { debug_one, be_server_0, be_server_1, run_0 }, TWO_SERVERS },
     { "other_server_ends", make_runtime, { debug_and_end_other, be_server_0, be_server_1, run_0 }, TWO_SERVERS },
     { "class_told", make_runtime, { take_class, be_server_0, load_0 }, ONE },
+    { "two_classes_told", make_runtime_of_two, { take_two_classes, be_server_0, load_0, load_1 }, TWO_THREADS },
     { "two_classes", make_runtime_of_two, { take_none, be_server_0, load_0, load_1 }, TWO_THREADS },
     { "class_told_to_none", make_runtime, { go_before_class, be_server_0, load_0 }, ONE },
     { "class_told_at_end", make_runtime, { end_before_class, be_server_0, load_0 }, ONE },
-    { "first_debugger", make_runtime, { attach_first, be_server_0, begin_suspended_0 }, ONE },
+    { "first_debugger", make_runtime, { come_first, be_server_0, begin_suspended_0 }, ONE },
+    { "first_after_a_probe", make_runtime, { come_after_a_probe, be_server_0, begin_suspended_0 }, ONE },
+    { "first_after_a_stranger", make_runtime, { come_after_a_stranger, be_server_0, begin_suspended_0 }, ONE },
     { "no_first_debugger", make_runtime, { end_before_first, be_server_0, begin_suspended_0 }, ONE },
 };
 const chapter serving = { all, sizeof all / sizeof *all, true };

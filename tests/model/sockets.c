@@ -18,6 +18,7 @@ typedef struct { size_t count; uint8_t bytes[BYTES]; } stream;
 struct peer {
     stream to_server, from_server;
     size_t room;             /* of what it has not read */
+    bool is_stranger;
     bool is_taken_in;
     bool has_hung_up;
     bool is_hung_up_on;
@@ -58,7 +59,7 @@ void forget_sockets(void) {
     memset(descriptors, 0, sizeof descriptors);
     for (int i = 0; i < PEERS; i++) {
         peers[i].to_server.count = peers[i].from_server.count = 0;
-        peers[i].is_taken_in = peers[i].has_hung_up = peers[i].is_hung_up_on = false;
+        peers[i].is_stranger = peers[i].is_taken_in = peers[i].has_hung_up = peers[i].is_hung_up_on = false;
     }
     memset(pollers, 0, sizeof pollers);
     memset(threads, 0, sizeof threads);
@@ -189,6 +190,7 @@ static void add(stream *to, const void *bytes, size_t count) {
 ssize_t receive(int socket, void *bytes, size_t room) {
     step("receive");
     peer *from = find(socket, SOCKET)->at;
+    if (is_interrupted()) return fail_as(EINTR);
     size_t count = take(&from->to_server, bytes, room);
     return count > 0 || from->has_hung_up ? (ssize_t)count : fail_as(EAGAIN);
 }
@@ -197,6 +199,7 @@ ssize_t transmit(int socket, const void *bytes, size_t count) {
     step("send");
     peer *to = find(socket, SOCKET)->at;
     size_t left_there = to->room - to->from_server.count;
+    if (is_interrupted()) return fail_as(EINTR);
     if (to->has_hung_up) return fail_as(EPIPE);
     if (left_there == 0) return fail_as(EAGAIN);
     count = count < left_there ? count : left_there;
@@ -208,6 +211,7 @@ ssize_t transmit(int socket, const void *bytes, size_t count) {
 int take_in_peer(int listener) {
     step("accept");
     peer *next = waiting_at(find(listener, LISTENER));
+    if (is_interrupted()) return fail_as(EINTR);
     if (next == NULL) return fail_as(EAGAIN);
     int made = make(SOCKET);
     descriptors[made].at = next;
@@ -242,7 +246,7 @@ uint32_t open_listener(listener *made, const char *address) {
 
 void close_listener(listener *of) { close_socket(&of->socket); }
 
-bool is_own_peer(int socket) { return find(socket, SOCKET) != NULL; }
+bool is_own_peer(int socket) { return !find(socket, SOCKET)->at->is_stranger; }
 
 int read_servers_clock(clockid_t clock, struct timespec *at) {
     (void)clock;
@@ -341,6 +345,8 @@ peer *dial(int number, size_t room) {
     tell_pollers();
     return made;
 }
+
+void dial_as_stranger(int number) { dial(number, 0)->is_stranger = true; }
 
 void say(peer *to, const void *bytes, size_t count) {
     step("say");

@@ -50,9 +50,11 @@ void be_server_1(void);
 /* Whether each server's thread sleeps for long. */
 bool servers_rest(void);
 
-/* A peer of the server that began to listen as the one with this number. Its end takes so many bytes before they are read. */
+/* A peer of the server that began to listen as the one with this number. Its end takes so many bytes before they are read. A
+ * stranger is none of this user's, nor root's. */
 typedef struct peer peer;
 peer *dial(int listener, size_t room);
+void dial_as_stranger(int listener);
 void say(peer *to, const void *bytes, size_t count);
 void hear(peer *from, void *bytes, size_t count);
 void hang_up(peer *from);
