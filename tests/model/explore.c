@@ -1,8 +1,8 @@
 /* explore.c: the search through all schedules of each scenario (README.md).
  *
- *     explore [-w] [-p PREEMPTIONS] [-b BUSIES] [-e EARLY_ENDS] [-m MOST_RUNS] [-n] [-s] [-t TICK_NS] [-f] [-v] [SCENARIO ..]
+ *     explore [-w] [-r] [-p PREEMPTIONS] [-b BUSIES] [-e EARLY_ENDS] [-m MOST_RUNS] [-n] [-s] [-t TICK_NS] [-f] [-v] [SCENARIO ..]
  *
- *     -w  the scenarios with servers, in place of the others
+ *     -w  those with servers, and no others      -r  schedules by chance, the same each time
  *     -n  the news come round in each run        -s  two processors: callers spin first
  *     -f  ends at the first wrong run            -v  tells each step of a wrong run
  *
@@ -30,25 +30,42 @@ bool is_set_up, goes_one_way;
 
 static struct { int taken, ways; } path[MOST_CHOICES];
 static int depth, known;
+static unsigned long runs;
+static bool is_by_chance;
+static uint64_t chance;
+static unsigned odds;  /* one in so many choices is another than the first */
 
 static void give_up(const char *why) {
     puts(why);
     exit(3);
 }
 
+static int choose_by_chance(int ways) {
+    chance ^= chance << 13;
+    chance ^= chance >> 7;
+    chance ^= chance << 17;
+    return (chance >> 32) % odds == 0 ? (int)((chance & UINT32_MAX) % (unsigned)ways) : 0;
+}
+
 int choose(int ways) {
     if (ways <= 1 || goes_one_way) return 0;
     if (depth == MOST_CHOICES) give_up("a run has too many choices");
     if (depth == known) {
-        path[known].taken = 0;
+        path[known].taken = is_by_chance ? choose_by_chance(ways) : 0;
         path[known++].ways = ways;
     }
     if (path[depth].ways != ways) give_up("a run was not repeated");
     return path[depth++].taken;
 }
 
-/* Whether there is a further path. */
+/* Whether there is a further path. By chance there always is. */
 static bool next_path(void) {
+    static const unsigned ODDS[] = { 3, 8, 20, 50 };
+    if (is_by_chance) {
+        known = 0;
+        odds = ODDS[runs % 4];
+        return true;
+    }
     while (known > 0 && path[known - 1].taken + 1 == path[known - 1].ways) known--;
     if (known > 0) path[known - 1].taken++;
     return known > 0;
@@ -79,7 +96,7 @@ static ucontext_t search;
 static const char *wrong;     /* why the run is wrong, or NULL */
 static char text[200];
 static bool tells;            /* each step is told */
-static unsigned long runs, sleeps;
+static unsigned long sleeps;
 static int steps;
 
 void fail(const char *why) {
@@ -268,6 +285,8 @@ static bool explore(const scenario *of, unsigned long most_runs, bool in_detail)
     bool has_more = true;
     runs = sleeps = 0;
     known = 0;
+    chance = 88172645463325252;
+    odds = 3;
     for (wrong = NULL; wrong == NULL && has_more && runs < most_runs;) {
         run(of);
         has_more = wrong == NULL && next_path();
@@ -291,7 +310,7 @@ static bool is_named(const char *name, char **words) {
 int main(int count, char **words) {
     unsigned long most_runs = 10000;
     bool ends_at_first = false, in_detail = false, with_servers = false, all_right = true;
-    for (int letter; (letter = getopt(count, words, "p:b:e:m:t:wnsfv")) != -1;) {
+    for (int letter; (letter = getopt(count, words, "p:b:e:m:t:wrnsfv")) != -1;) {
         switch (letter) {
         case 'p': most.preemptions = atoi(optarg); break;
         case 'b': most.busies = atoi(optarg); break;
@@ -299,6 +318,7 @@ int main(int count, char **words) {
         case 'm': most_runs = strtoul(optarg, NULL, 10); break;
         case 't': tick_ns = atoll(optarg); break;
         case 'w': with_servers = true; break;
+        case 'r': is_by_chance = true; break;
         case 'n': news_come_round = true; break;
         case 's': processors_there = 2; tick_ns = 7000; break;
         case 'f': ends_at_first = true; break;

@@ -32,7 +32,8 @@ SOURCES = [*SCENARIOS, *(HERE / f"{name}.c" for name in ("explore", "system", "s
 FLAGS = ["-std=gnu11", "-O2", "-Wall", "-Wextra", "-Werror"]
 LONGEST = 600
 
-# The bounds of the gate: preemptions (-p), CQ_BUSY (-b), sleeps that end for no reason (-e), and runs of a scenario (-m).
+# The bounds of the gate: preemptions (-p), CQ_BUSY (-b), sleeps that end for no reason (-e), and runs of a scenario (-m). Some take
+# schedules by chance (-r).
 BOUNDS = [
     "-p 1 -m 100000",
     "-p 2 -m 30000",
@@ -42,6 +43,7 @@ BOUNDS = [
     "-p 1 -b 1 -m 10000 -n",
     "-p 1 -b 1 -m 20000 -t 70000",
     "-p 1 -b 1 -m 20000 -s",
+    "-r -p 4 -b 3 -e 2 -m 10000",
     "-w -p 1 -m 30000",
     "-w -p 2 -m 8000",
     "-w -p 1 -b 1 -m 4000",
@@ -50,6 +52,7 @@ BOUNDS = [
     "-w -p 1 -b 1 -m 2000 -n",
     "-w -p 1 -b 1 -m 2000 -t 70000",
     "-w -p 1 -b 1 -m 2000 -s",
+    "-w -r -p 2 -b 2 -e 2 -m 4000",
 ]
 
 # A fault is looked for by these, up to the first that finds it.
