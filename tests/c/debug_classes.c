@@ -28,7 +28,7 @@ static atomic_bool over;
 static atomic_uint count;
 static atomic_bool together;  /* all define before one of them is told */
 static pthread_barrier_t all_defined;
-static sem_t inside, release;
+static sem_t inside, release, stands;
 
 /* ------------------------------------------------------------------------------------------------------------------
  * The runtime.
@@ -69,6 +69,7 @@ static void *work(void *of) {
     OK(cq_wait_start(&w->thread, &all_signal, -1));
     for (;;) {
         OK(cq_wait_block(&w->thread, &all_signal, CQ_SLEEP));
+        sem_post(&stands);
         await(&w->go);
         OK(cq_wait_back(&w->thread, &all_signal, -1));
         if (atomic_load(&over)) {
@@ -102,7 +103,8 @@ static void begin_worker(worker *w, const char *name) {
     SAME(pthread_create(&w->id, NULL, work, w), 0);
 }
 
-/* Begins with a class that nobody was told of, number 0, and its method 0. */
+/* Begins with a class that nobody was told of, number 0, and its method 0. Both workers have started: one that had not would not be
+ * suspended with the others. */
 static void begin(void) {
     static const char *const names[WORKERS] = { "a", "b" };
     cq_variables variables = { NULL, stand, know_none };
@@ -110,10 +112,14 @@ static void begin(void) {
     atomic_store(&count, 1);
     sem_init(&inside, 0, 0);
     sem_init(&release, 0, 0);
+    sem_init(&stands, 0, 0);
     OK(cq_make(8, 2, 4, CQ_CAN_SUSPEND | CQ_CAN_POP_FRAME, &service));
     define(&service, "old", 0, 1);
     for (size_t i = 0; i < WORKERS; i++) {
         begin_worker(&workers[i], names[i]);
+    }
+    for (size_t i = 0; i < WORKERS; i++) {
+        await(&stands);
     }
     OK(cq_server_variables(&server, &variables));
     OK(cq_debug_listen(&server, &service, &all_signal, "127.0.0.1:0", "tests", "/src"));
