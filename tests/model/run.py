@@ -15,6 +15,7 @@ import shutil
 import subprocess
 import sys
 import tempfile
+from concurrent.futures import ThreadPoolExecutor
 
 sys.dont_write_bytecode = True
 
@@ -120,9 +121,10 @@ def search(program, words):
 
 
 def explore(told, program):
-    """Tells whether each scenario passed, for each of the bounds."""
-    for words in BOUNDS:
-        lines = search(program, words)
+    """Tells whether each scenario passed, for each of the bounds. Two searches run at a time."""
+    with ThreadPoolExecutor(2) as pool:
+        searches = zip(BOUNDS, pool.map(lambda words: search(program, words), BOUNDS))
+    for words, lines in searches:
         for line in lines:
             told.result(f"{words}: {line.partition(':')[0]}", line if ": WRONG: " in line else "")
         runs = sum(int(count) for count in re.findall(r": (\d+) runs", "\n".join(lines)))
