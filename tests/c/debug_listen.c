@@ -18,7 +18,7 @@ static cq_service service;
 static cq_signal all_signal;
 static cq_thread threads[2];
 static pthread_t ids[2];
-static atomic_bool over, is_busy;
+static atomic_bool over, is_busy, dozes;
 static atomic_ulong turns, calls;
 
 /* ------------------------------------------------------------------------------------------------------------------
@@ -43,6 +43,7 @@ static void *work(void *unused) {
 static void *doze(void *unused) {
     OK(cq_wait_start(&threads[1], &all_signal, -1));
     OK(cq_wait_block(&threads[1], &all_signal, CQ_SLEEP));
+    atomic_store(&dozes, true);
     while (!atomic_load(&over)) {
         usleep(1000);
     }
@@ -55,16 +56,25 @@ static uint32_t listens(cq_server *at, const char *address) {
     return cq_debug_listen(at, &service, &all_signal, address, "listens", "/src");
 }
 
+static void await_sleeper(void) {
+    for (int i = 0; i < 20000 && !atomic_load(&dozes); i++) {
+        usleep(1000);
+    }
+    CHECK(atomic_load(&dozes));
+}
+
 void begin_debugged(const char *address) {
     static void *(*const runs[])(void *) = { work, doze };
     static const char *const names[] = { "worker", "sleeper" };
     atomic_store(&over, false);
+    atomic_store(&dozes, false);
     OK(cq_make(8, 2, 4, CQ_CAN_SUSPEND | CQ_CAN_POP_FRAME, &service));
     for (size_t i = 0; i < 2; i++) {
         OK(cq_wait_attach_thread(&service, &all_signal, (const uint8_t *)names[i], strlen(names[i]), 5, &threads[i]));
         SAME(pthread_create(&ids[i], NULL, runs[i], NULL), 0);
     }
     await_worker();
+    await_sleeper();
     OK(listens(&debugged, address));
 }
 
