@@ -5,7 +5,7 @@
 
 #include "../../c/cebdyraq_wait.h"
 
-enum { MOST_ACTORS = 5 };
+enum { MOST_ACTORS = 4 };
 
 typedef void (*body)(void);
 

@@ -27,11 +27,12 @@ import faults
 import tap
 
 C = TOP / "c"
-SCENARIOS = [HERE / f"{name}.c" for name in ("calls_at_threads", "traces", "stops", "news", "serving")]
-SOURCES = [*SCENARIOS, *(HERE / f"{name}.c" for name in ("explore", "system", "sockets", "debuggers", "scenarios", "waits", "servers")),
+SCENARIOS = [HERE / f"{name}.c" for name in ("scenarios", "calls_at_threads", "traces", "stops", "news", "serving")]
+SOURCES = [*SCENARIOS, *(HERE / f"{name}.c" for name in ("explore", "system", "sockets", "debuggers", "waits", "servers")),
            *(C / f"cebdyraq_{name}.c" for name in ("heap", "classes", "variables", "version"))]
 FLAGS = ["-std=gnu11", "-O2", "-Wall", "-Wextra", "-Werror"]
 LONGEST = 600
+DO_NOT_WAIT = {"cq_server_variables", "cq_server_pops_frames", "cq_server_port"}
 
 # The bounds of the gate: preemptions (-p), CQ_BUSY (-b), sleeps that end for no reason (-e), and runs of a scenario (-m). Some take
 # schedules by chance (-r).
@@ -106,10 +107,11 @@ def build_anew(archive, folder, part, source, made):
 
 
 def untried():
-    """The functions of cebdyraq_wait.h that no scenario calls."""
-    names = re.findall(r"^(?:uint32_t|void) (cq_\w+)\(", (C / "cebdyraq_wait.h").read_text(), re.M)
+    """The functions of the waiting layer and of servers that no scenario calls, but for those that do not wait."""
+    headers = "".join((C / f"cebdyraq_{name}.h").read_text() for name in ("wait", "serve"))
+    names = set(re.findall(r"^(?:uint32_t|void) (cq_(?:wa|serve|debug)\w*)\(", headers, re.M)) - DO_NOT_WAIT
     text = "".join(source.read_text() for source in SCENARIOS)
-    return [name for name in names if not re.search(rf"\b{name}\(", text)]
+    return sorted(name for name in names if not re.search(rf"\b{name}\(", text))
 
 
 def search(program, words):
@@ -175,7 +177,7 @@ def main(words):
     with tempfile.TemporaryDirectory() as name:
         folder = pathlib.Path(name)
         build(archive, folder)
-        told.result("each function of cebdyraq_wait.h is in a scenario", ", ".join(untried()))
+        told.result("each function that waits is in a scenario", ", ".join(untried()))
         explore(told, folder / "explore")
         if not words[2:]:
             for part, those in faults.FAULTS.items():
