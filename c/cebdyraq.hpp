@@ -301,6 +301,11 @@ public:
 
     cq_watch *get() const noexcept { return handle_.get(); }
 
+    /* From now on it also tells, under CQ_ALL_THREADS, that the stops of the service have changed, and no other watch does. */
+    void watch_stops(const holder<cq_service> &of) {
+        settle([&] { return cq_watch_stops(of.get(), get()); });
+    }
+
     /* Those that have become wanted and were not told, at most so many. Once there is none, `fd` is readable when there is one. */
     std::vector<std::uint32_t> next_wanted(std::size_t most = 64) {
         return told(most, [this](auto *to, auto room, auto *count) { return cq_next_wanted(get(), to, room, count); });

@@ -29,6 +29,10 @@ uint32_t cebdyraq_watch_thread(cq_thread *thread, cq_watch *watch);
 /* From now on no watch tells of it. CQ_NOT_RUNNING 204, CQ_BUSY 215. */
 uint32_t cebdyraq_unwatch_thread(cq_thread *thread);
 
+/* From now on the watch tells under the number CQ_ALL_THREADS that an environment of the service asks for a stop or no longer does, and
+ * any other watch does not. CQ_BUSY 215, CQ_OUT_OF_MEMORY 110. */
+uint32_t cebdyraq_watch_stops(cq_service *service, cq_watch *watch);
+
 /* Writes the number of a thread that has become wanted and was not told. CQ_NONE 303: there is none, or the next one is just being
  * entered. Then the count changes once it is. */
 uint32_t cebdyraq_next_wanted(cq_watch *watch, uint32_t *thread);

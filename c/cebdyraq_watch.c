@@ -282,6 +282,17 @@ uint32_t cq_unwatch_thread(cq_thread *thread) {
     return cebdyraq_unwatch_thread(thread);
 }
 
+uint32_t cq_watch_stops(cq_service *service, cq_watch *at) {
+    watch *w = opened(at);
+    if (!w) {
+        return CQ_MISUSED;
+    }
+    pthread_mutex_lock(&w->lock);
+    uint32_t code = cebdyraq_watch_stops(service, at);
+    pthread_mutex_unlock(&w->lock);
+    return code;
+}
+
 /* One try, with the lock of the watch. */
 static uint32_t take(cq_watch *at, uint32_t *threads, size_t room, uint64_t *count) {
     size_t taken = 0;

@@ -31,7 +31,8 @@
  * - No thread is missed. A thread that is watched and wanted was told since it became so, or is told next.
  * - A thread that is told may have handed over meanwhile, may have ended, or may be watched no longer. Then the request is in vain, and
  *   does no harm. No number is used again.
- * - A thread that is native, blocked or held at its poll is not wanted. It stays watched.
+ * - A thread that is native, blocked or held at its poll has handed over. If a trace of several threads stops it, it is told in vain. It
+ *   stays watched.
  *
  * WHO MAY USE IT
  *
@@ -92,6 +93,17 @@ uint32_t cq_watch_thread(cq_thread *thread, cq_watch *watch) CQ_MUST_USE;
  *
  * Since 2.4. */
 uint32_t cq_unwatch_thread(cq_thread *thread) CQ_MUST_USE;
+
+/* From now on the watch also tells, under the number CQ_ALL_THREADS, that the stops of the service have changed: an environment asks for
+ * one or no longer does, also one behind a door (cq_set_stop_notification_mode, cq_set_breakpoint, cq_clear_breakpoint,
+ * cq_notify_frame_pop, its end). Then cq_may_stop_in says which code may have to stop. Ask it also once after this call, since what was
+ * asked for before is not told. No other watch tells of these stops any more. That ends with cq_close_watch.
+ *
+ *   CQ_OUT_OF_MEMORY 110  there is no memory for it
+ *   CQ_BUSY 215           the list of threads is in use
+ *
+ * Since 2.4. */
+uint32_t cq_watch_stops(cq_service *service, cq_watch *watch) CQ_MUST_USE;
 
 /* Writes the numbers of threads that have become wanted and were not told (cq_thread_number), as many as there is `room` for, and to
  * `count` how many these are: 1 to `room`. There may be more: call again, until the code is CQ_NONE. It never sleeps.

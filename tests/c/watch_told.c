@@ -363,6 +363,77 @@ static void of_one_among_many(void) {
     OK(cq_let_go_of_all(&env));
 }
 
+/* ------------------------------------------------------------------------------------------------------------------
+ * Stops.
+ */
+
+static uint32_t set_mode(cq_env *of, bool enabled) {
+    return cq_set_stop_notification_mode(of, enabled, CQ_SINGLE_STEP, CQ_ALL_THREADS);
+}
+
+/* What was asked for before they are watched is not told. */
+static void of_stops(void) {
+    cq_service none = { 0 };
+    cq_watch closed = { 0 };
+    OK(set_mode(&env, true));
+    tells_nothing(&watch);
+    SAME(cq_watch_stops(&none, &watch), CQ_MISUSED);
+    SAME(cq_watch_stops(&service, &closed), CQ_MISUSED);
+    OK(cq_watch_stops(&service, &watch));
+    tells_nothing(&watch);
+    OK(set_mode(&env, false));
+    TELLS(&watch, CQ_ALL_THREADS);
+    OK(set_mode(&other, true));
+    OK(set_mode(&env, true));
+    call(1);
+    TELLS(&watch, 1, CQ_ALL_THREADS);
+    hand_over(1);
+    OK(set_mode(&other, false));
+    OK(set_mode(&env, false));
+    TELLS(&watch, CQ_ALL_THREADS);
+}
+
+/* A thread that stops, and goes on, changes nothing of what is asked for. The step of it does. */
+static void of_a_thread_that_stops(void) {
+    bool stops = false;
+    cq_stop stop;
+    OK(set_mode(&env, true));
+    TELLS(&watch, CQ_ALL_THREADS);
+    OK(cq_reached(&threads[0], 7, 1, &stops));
+    CHECK(stops);
+    OK(cq_next_stop(&env, &stop));
+    SAME(stop.thread, 0);
+    OK(cq_end_stop(&env, 0));
+    tells_nothing(&watch);
+    OK(set_mode(&env, false));
+    TELLS(&watch, CQ_ALL_THREADS);
+}
+
+static void of_stops_for_an_environment_that_ends(void) {
+    cq_env ends = { 0 };
+    OK(cq_attach_environment(&service, &ends));
+    tells_nothing(&watch);
+    OK(cq_dispose_environment(&ends));
+    tells_nothing(&watch);
+    OK(cq_attach_environment(&service, &ends));
+    OK(set_mode(&ends, true));
+    TELLS(&watch, CQ_ALL_THREADS);
+    OK(cq_dispose_environment(&ends));
+    TELLS(&watch, CQ_ALL_THREADS);
+}
+
+static void of_stops_by_another_watch(void) {
+    cq_watch second = { 0 };
+    OK(cq_open_watch(&second));
+    OK(cq_watch_stops(&service, &second));
+    OK(set_mode(&env, true));
+    tells_nothing(&watch);
+    TELLS(&second, CQ_ALL_THREADS);
+    OK(cq_close_watch(&second));
+    OK(set_mode(&env, false));
+    tells_nothing(&watch);
+}
+
 void tells_what_is_wanted(void) {
     begin();
     once_a_turn();
@@ -381,5 +452,9 @@ void tells_what_is_wanted(void) {
     by_another_watch();
     of_threads_that_come_and_go();
     of_one_among_many();
+    of_stops();
+    of_a_thread_that_stops();
+    of_stops_for_an_environment_that_ends();
+    of_stops_by_another_watch();
     end();
 }

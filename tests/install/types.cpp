@@ -400,6 +400,9 @@ void test_watch() {
     thread.unwatch();
     EXPECT(refused([&] { env.get_frame_count(0, soon); }) == cebdyraq::code::timed_out);
     EXPECT(other.next_wanted().empty());
+    other.watch_stops(service);
+    env.set_stop_notification_mode(true, CQ_SINGLE_STEP);
+    EXPECT(other.next_wanted() == numbers{CQ_ALL_THREADS});
 }
 
 }  // namespace

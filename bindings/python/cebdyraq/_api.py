@@ -484,6 +484,7 @@ FUNCTIONS: Dict[str, Tuple[Any, List[Any]]] = {
     "cq_close_watch": (U32, [AT]),
     "cq_watch_thread": (U32, [AT, AT]),
     "cq_unwatch_thread": (U32, [AT]),
+    "cq_watch_stops": (U32, [AT, AT]),
     "cq_next_wanted": (U32, [AT, AT, SIZE, AT]),
     "cq_wait_next_wanted": (U32, [AT, I64, AT, SIZE, AT]),
     "cq_watch_fd": (U32, [AT, AT]),

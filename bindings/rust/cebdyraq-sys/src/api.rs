@@ -976,6 +976,7 @@ extern "C" {
     pub fn cq_close_watch(watch: *mut cq_watch) -> u32;
     pub fn cq_watch_thread(thread: *mut cq_thread, watch: *mut cq_watch) -> u32;
     pub fn cq_unwatch_thread(thread: *mut cq_thread) -> u32;
+    pub fn cq_watch_stops(service: *mut cq_service, watch: *mut cq_watch) -> u32;
     pub fn cq_next_wanted(watch: *mut cq_watch, threads: *mut u32, room: usize, count: *mut u64) -> u32;
     pub fn cq_wait_next_wanted(
         watch: *mut cq_watch,
