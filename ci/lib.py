@@ -41,7 +41,7 @@ OBJECTS = {
 }
 # The names that two of them share beside those of the headers. The shared library does not export them.
 SHARED = ("cebdyraq_wake_servers", "cebdyraq_watchers", "cebdyraq_open_watch", "cebdyraq_close_watch", "cebdyraq_watch_thread",
-          "cebdyraq_unwatch_thread", "cebdyraq_next_wanted", "cebdyraq_news_of")
+          "cebdyraq_unwatch_thread", "cebdyraq_watch_stops", "cebdyraq_next_wanted", "cebdyraq_news_of")
 # The functions of the proved half that have another name in the library, since cebdyraq_calls.c has one of theirs.
 CALL = re.compile(r"^\w+ cebdyraq_(\w+)_proved\(", re.M)
 FLAGS = ("-std=c11", "-O2", "-g", "-fPIC", "-Wall", "-Wextra", "-Werror", f"-ffile-prefix-map={TOP}/=")
