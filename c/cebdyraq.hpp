@@ -2,8 +2,8 @@
  *
  * A function does what that of its name does in C, and waits asleep. A code other than CQ_OK is thrown as an `error`. Without exceptions
  * (-fno-exceptions) it ends the program, with a line on the standard error. A `time` is in nanoseconds, and `forever` is no deadline.
- * Each object but a `watch` is used by one thread of the operating system at a time. It may be moved, and an object that was moved from may only be
- * destroyed or assigned to.
+ * Each object is used by one thread of the operating system at a time, but for a `watch`. It may be moved, and an object that was moved
+ * from may only be destroyed or assigned to.
  *
  * Calls that are posted and collected later are not here. They are made in C with the handle that `get` gives. */
 #ifndef CEBDYRAQ_HPP

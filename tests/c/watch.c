@@ -192,6 +192,13 @@ static void lacks_memory(void) {
     TELLS(&another, 2);
     hand_over(2);
     OK(cq_watch_thread(&threads[2], &watch));
+    code = CQ_OUT_OF_MEMORY;
+    for (long most = 0; code != CQ_OK; most++) {
+        heap_refuse_after(most);
+        code = cq_watch_stops(&service, &another);
+        heap_refuse_after(-1);
+        CHECK(code == CQ_OK || code == CQ_OUT_OF_MEMORY);
+    }
     OK(cq_close_watch(&another));
 }
 

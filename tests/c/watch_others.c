@@ -84,6 +84,16 @@ static void by_a_thread_that_is_watched(void) {
     hand_over(0);
 }
 
+static void by_what_is_asked_about_stops(void) {
+    sleeper one;
+    OK(cq_watch_stops(&service, &watch));
+    begin_sleep(&one);
+    OK(cq_set_stop_notification_mode(&env, true, CQ_BREAKPOINT, CQ_ALL_THREADS));
+    SAME(told_after_sleep(&one), CQ_ALL_THREADS);
+    OK(cq_set_stop_notification_mode(&env, false, CQ_BREAKPOINT, CQ_ALL_THREADS));
+    TELLS(&watch, CQ_ALL_THREADS);
+}
+
 static void each_is_told_another(void) {
     sleeper ones[3];
     bool seen[THREADS] = { false };
@@ -267,6 +277,7 @@ void wakes_others(void) {
     has_a_deadline();
     by_a_call();
     by_a_thread_that_is_watched();
+    by_what_is_asked_about_stops();
     each_is_told_another();
     not_for_another_watch();
     tells_by_a_file();
