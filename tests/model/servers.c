@@ -24,7 +24,7 @@
 #define eventfd_write add_to_event
 #define eventfd_read(event, count) take_from_event(event, (uint64_t *)(count))
 #define ppoll(all, count, time, signals) poll_all(all, count, time)
-#define poll(all, count, time) poll_all(all, count, &(struct timespec){ 0 })
+#define poll(all, count, time) poll_within(all, count, time)
 #define recv(socket, bytes, room, flags) receive(socket, bytes, room)
 #define send(socket, bytes, count, flags) transmit(socket, bytes, count)
 #define accept4(listener, address, length, flags) take_in_peer(listener)

@@ -153,23 +153,32 @@ int take_from_event(int event, uint64_t *count) {
     return 0;
 }
 
-int poll_all(struct pollfd *all, nfds_t count, const struct timespec *time) {
-    int64_t most = (int64_t)time->tv_sec * 1000000000 + time->tv_nsec;
+/* Waits for one of them, for at most this time. Only while somebody else could go on does a long wait end by its time. */
+static int wait_for(struct pollfd *all, nfds_t count, int64_t most, bool is_long) {
     poller *self = &pollers[who_runs()];
-    step(most == 0 ? "poll, and go on" : most < LONG_NS ? "poll for a while" : "poll for long");
+    step(most == 0 ? "poll, and go on" : is_long ? "poll for long" : "poll for a while");
     int found = look(all, count);
     if (found > 0 || most == 0) return found;
     if (is_interrupted()) return fail_as(EINTR);
     self->all = all;
     self->count = count;
-    self->is_long = most >= LONG_NS;
-    if (self->is_long) {
+    self->is_long = is_long;
+    if (is_long) {
         sleep_long_at(&self->word, time_ns + most);
     } else {
         sleep_at(&self->word, 1, time_ns + most);
     }
     self->all = NULL;
     return look(all, count);
+}
+
+int poll_all(struct pollfd *all, nfds_t count, const struct timespec *time) {
+    int64_t most = (int64_t)time->tv_sec * 1000000000 + time->tv_nsec;
+    return wait_for(all, count, most, most >= LONG_NS);
+}
+
+int poll_within(struct pollfd *all, nfds_t count, int milliseconds) {
+    return wait_for(all, count, (int64_t)milliseconds * 1000000, false);
 }
 
 /* Takes the first bytes of a stream. */

@@ -17,6 +17,8 @@ int open_event(void);
 int add_to_event(int event, uint64_t more);
 int take_from_event(int event, uint64_t *count);
 int poll_all(struct pollfd *all, nfds_t count, const struct timespec *time);
+/* The same, of a wait that may end by its time in any case. */
+int poll_within(struct pollfd *all, nfds_t count, int milliseconds);
 ssize_t receive(int socket, void *bytes, size_t room);
 ssize_t transmit(int socket, const void *bytes, size_t count);
 int take_in_peer(int listener);
