@@ -92,7 +92,7 @@ extern "C" {
 
 /* The version of this header. */
 #define CQ_VERSION_MAJOR 2
-#define CQ_VERSION_MINOR 4
+#define CQ_VERSION_MINOR 5
 #define CQ_VERSION_PATCH 0
 
 /* The version of the library that the program runs with, as major * 1,000,000 + minor * 1,000 + patch. */

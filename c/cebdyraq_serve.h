@@ -134,7 +134,7 @@ uint32_t cq_door_disconnect(cq_door *door, uint32_t connection);
 /* Says that the runtime ends. A debugger is told by VM_DEATH, behind what it is told already: call cq_door_tick and cq_door_next
  * before, so that it is told of threads that have ended. Nothing is read or answered after it, and a question that is open is dropped.
  * Then cq_door_next resumes what the debugger has suspended, and gives CQ_DOOR_CLOSE once all is written. Nothing happens at a door for
- * HTTP. Since 2.4. */
+ * HTTP. Since 2.5. */
 uint32_t cq_door_runtime_ends(cq_door *door);
 
 /* Does what is due: meets threads, reads stacks, counts, and answers; tells a debugger of events and stops, and undoes suspensions

@@ -64,7 +64,7 @@ typedef struct { uint32_t kind; void *at; uint64_t kept[14]; } cq_watch;
  *   CQ_MISUSED 304        `watch` is open
  *   CQ_OUT_OF_MEMORY 110  there is no memory for it
  *
- * Since 2.4. */
+ * Since 2.5. */
 uint32_t cq_open_watch(cq_watch *watch) CQ_MUST_USE;
 
 /* Closes a watch and its file descriptor. The watch is zeros then, and may be opened again. No watch tells of its threads any more. They
@@ -72,7 +72,7 @@ uint32_t cq_open_watch(cq_watch *watch) CQ_MUST_USE;
  *
  *   CQ_MISUSED 304  also if somebody sleeps in it. Nothing changes
  *
- * Since 2.4. */
+ * Since 2.5. */
 uint32_t cq_close_watch(cq_watch *watch);
 
 /* From now on the watch tells of the thread: at once, if somebody calls for it now, and each time that it becomes wanted. No other watch
@@ -82,7 +82,7 @@ uint32_t cq_close_watch(cq_watch *watch);
  *   CQ_OUT_OF_MEMORY 110  there is no memory for it
  *   CQ_BUSY 215           an environment uses the thread
  *
- * Since 2.4. */
+ * Since 2.5. */
 uint32_t cq_watch_thread(cq_thread *thread, cq_watch *watch) CQ_MUST_USE;
 
 /* From now on no watch tells that the thread becomes wanted. One may still tell that it became so before. It is no error if no watch
@@ -91,7 +91,7 @@ uint32_t cq_watch_thread(cq_thread *thread, cq_watch *watch) CQ_MUST_USE;
  *   CQ_NOT_RUNNING 204  the thread does not run
  *   CQ_BUSY 215         an environment uses the thread
  *
- * Since 2.4. */
+ * Since 2.5. */
 uint32_t cq_unwatch_thread(cq_thread *thread) CQ_MUST_USE;
 
 /* From now on the watch also tells, under the number CQ_ALL_THREADS, that the stops of the service have changed: an environment asks for
@@ -102,7 +102,7 @@ uint32_t cq_unwatch_thread(cq_thread *thread) CQ_MUST_USE;
  *   CQ_OUT_OF_MEMORY 110  there is no memory for it
  *   CQ_BUSY 215           the list of threads is in use
  *
- * Since 2.4. */
+ * Since 2.5. */
 uint32_t cq_watch_stops(cq_service *service, cq_watch *watch) CQ_MUST_USE;
 
 /* Writes the numbers of threads that have become wanted and were not told (cq_thread_number), as many as there is `room` for, and to
@@ -111,7 +111,7 @@ uint32_t cq_watch_stops(cq_service *service, cq_watch *watch) CQ_MUST_USE;
  *   CQ_ILLEGAL_ARGUMENT 103  `room` is 0
  *   CQ_NONE 303              there is no such thread. Nothing is written
  *
- * Since 2.4. */
+ * Since 2.5. */
 uint32_t cq_next_wanted(cq_watch *watch, uint32_t *threads, size_t room, uint64_t *count) CQ_MUST_USE;
 
 /* The same, asleep until there is such a thread. If several sleep in a watch, each thread is told to one of them. `timeout_ns` is in
@@ -120,7 +120,7 @@ uint32_t cq_next_wanted(cq_watch *watch, uint32_t *threads, size_t room, uint64_
  *   CQ_ILLEGAL_ARGUMENT 103  `room` is 0
  *   CQ_TIMED_OUT 214         the time is over. Nothing is written
  *
- * Since 2.4. */
+ * Since 2.5. */
 uint32_t cq_wait_next_wanted(cq_watch *watch, int64_t timeout_ns, uint32_t *threads, size_t room, uint64_t *count) CQ_MUST_USE;
 
 /* Writes a file descriptor for an event loop to `fd`: an eventfd, with EFD_NONBLOCK and EFD_CLOEXEC. The first call makes it, and each
@@ -131,7 +131,7 @@ uint32_t cq_wait_next_wanted(cq_watch *watch, int64_t timeout_ns, uint32_t *thre
  *
  *   CQ_SYSTEM 306  the operating system refused it: errno says why. Nothing is written
  *
- * Since 2.4. */
+ * Since 2.5. */
 uint32_t cq_watch_fd(cq_watch *watch, int32_t *fd) CQ_MUST_USE;
 
 #ifdef __cplusplus

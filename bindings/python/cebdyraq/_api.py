@@ -6,7 +6,7 @@ from typing import Any, Dict, List, Tuple
 
 from ._types import AT, BOOL, DOUBLE, I32, I64, INT, NUMBER, SIZE, TEXT, U32, U64, WORD
 
-VERSION = (2, 4)
+VERSION = (2, 5)
 
 ALL_THREADS = 4294967295
 DOOR_CONNECTIONS = 16

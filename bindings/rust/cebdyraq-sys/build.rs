@@ -4,7 +4,7 @@ use std::env;
 use std::process::{exit, Command};
 
 /// The versions that have all that this crate declares.
-const WANTED: [&str; 2] = ["cebdyraq >= 2.4", "cebdyraq < 3"];
+const WANTED: [&str; 2] = ["cebdyraq >= 2.5", "cebdyraq < 3"];
 const READ: [&str; 5] =
     ["CEBDYRAQ_LIB_DIR", "PKG_CONFIG", "PKG_CONFIG_PATH", "PKG_CONFIG_LIBDIR", "PKG_CONFIG_SYSROOT_DIR"];
 

@@ -5,7 +5,7 @@ use core::ptr::null_mut;
 
 // The version whose functions are declared here.
 pub const CQ_VERSION_MAJOR: u32 = 2;
-pub const CQ_VERSION_MINOR: u32 = 4;
+pub const CQ_VERSION_MINOR: u32 = 5;
 
 // cq_code
 /// It is done, or the answer is there.
