@@ -34,7 +34,7 @@
  * WHAT A DEBUGGER MAY DO
  *
  * It speaks the Java Debug Wire Protocol of Java 8, as jdb and the Java debuggers of editors do. It reads threads, stacks, classes,
- * methods and lines, is told of threads that start and end and of classes that come, and suspends and resumes threads. It sets
+ * methods and lines, is told of threads that start and end, of classes that come and of the end, and suspends and resumes threads. It sets
  * breakpoints and steps, where the runtime says what its threads reach (cq_reached). It reads variables of suspended threads, where the
  * runtime tells them (cq_server_variables), and pops frames of them, where the runtime's threads go on without (cq_server_pops_frames).
  * Its suspensions of a thread nest. When it goes, the threads that it has suspended or stopped go on, and those that another environment

@@ -1,5 +1,6 @@
 /* debugger_random.c: random streams of packets, cut at random, while threads run, come and go. Whatever comes, each whole request has
- * one reply, in order, and nothing but events stands between replies. A debugger that goes leaves no thread suspended. */
+ * one reply, in order, and nothing but events stands between replies. A debugger that goes leaves no thread suspended. The runtime may end
+ * in mid-stream: then nothing is written behind VM_DEATH. */
 #include "debugger.h"
 #include "debugger_streams.h"
 
@@ -135,7 +136,26 @@ static void wait_a_while(void) {
     tick_after(below(300) * MILLISECOND);
 }
 
-/* Feeds the stream, and takes what the door writes, until it closes. It may give up before: then it is false. */
+/* The runtime ends, and the door closes without a question. */
+static void end_runtime_in_stream(void) {
+    OK(cq_door_runtime_ends(&door));
+    for (int rests = 0; rests < LONGEST_REST;) {
+        uint32_t action = action_now();
+        if (action == CQ_DOOR_CLOSE) {
+            return;
+        }
+        if (action == CQ_DOOR_WRITE) {
+            take_some();
+            continue;
+        }
+        SAME(action, CQ_DOOR_WAIT);
+        wait_a_while();
+        rests++;
+    }
+    CHECK(!"the door closes once the runtime has ended");
+}
+
+/* Feeds the stream, and takes what the door writes, until it closes. It may give up before, or the runtime may end: then it is false. */
 static bool run_stream(void) {
     size_t at = 0, patience = below(6) == 0 ? below(30) : SIZE_MAX;
     bool ended = false;
@@ -144,8 +164,14 @@ static bool run_stream(void) {
             wait_a_while();
         }
         uint32_t action = action_now();
-        if (action == CQ_DOOR_CLOSE || patience == 0) {
-            return action == CQ_DOOR_CLOSE;
+        if (action == CQ_DOOR_CLOSE) {
+            return true;
+        }
+        if (patience == 0) {
+            if (below(2) == 0) {
+                end_runtime_in_stream();
+            }
+            return false;
         }
         size_t taken = 0;
         if (action == CQ_DOOR_WRITE) {
@@ -172,15 +198,16 @@ static bool run_stream(void) {
     return false;
 }
 
-/* What was written begins with whole packets: the replies that are expected, with events between them. Returns how many replies
- * there are. The last packet may be cut. */
+/* What was written begins with whole packets: the replies that are expected, with events between them, and nothing behind the end of the
+ * runtime. Returns how many replies there are. The last packet may be cut. */
 static size_t check_written(bool is_whole) {
     size_t at = 14, replies = 0;
+    bool has_ended = false;
     CHECK(!memcmp(written, HANDSHAKE, written_count < 14 ? written_count : 14));
     while (written_count >= at + HEAD) {
         const uint8_t *head = written + at;
         uint32_t length = number_at(head, 4);
-        CHECK(length >= HEAD);
+        CHECK(length >= HEAD && !has_ended);
         if (length > written_count - at) {
             break;
         }
@@ -190,6 +217,7 @@ static size_t check_written(bool is_whole) {
             replies++;
         } else {
             CHECK(head[8] == 0 && head[9] == 64 && head[10] == 100);
+            has_ended = head[HEAD + 5] == 99;
         }
         at += length;
     }
