@@ -34,11 +34,11 @@
  * WHAT A DEBUGGER MAY DO
  *
  * It speaks the Java Debug Wire Protocol of Java 8, as jdb and the Java debuggers of editors do. It reads threads, stacks, classes,
- * methods and lines, is told of threads that start and end, of classes that come and of the end, and suspends and resumes threads. It sets
- * breakpoints and steps, where the runtime says what its threads reach (cq_reached). It reads variables of suspended threads, where the
- * runtime tells them (cq_server_variables), and pops frames of them, where the runtime's threads go on without (cq_server_pops_frames).
- * Its suspensions of a thread nest. When it goes, the threads that it has suspended or stopped go on, and those that another environment
- * has suspended stay so.
+ * methods and lines, is told of threads that start and end, of classes that come and of the end, and suspends and resumes threads. It
+ * sets breakpoints and steps, where the runtime says what its threads reach (cq_reached). It reads variables of suspended threads,
+ * where the runtime tells them (cq_server_variables), and pops frames of them, where the runtime's threads go on without
+ * (cq_server_pops_frames). Its suspensions of a thread nest. When it goes, the threads that it has suspended or stopped go on, and
+ * those that another environment has suspended stay so.
  *
  * WHO MAY DEBUG
  *
@@ -371,11 +371,11 @@ uint32_t cq_server_tell_classes(cq_server *server) CQ_MUST_USE;
  * serve. */
 uint32_t cq_server_port(const cq_server *server, uint16_t *port) CQ_MUST_USE;
 
-/* Ends the thread, closes all sockets, and disposes of the environment. Threads of the service go on meanwhile. A debugger is told of
- * what took place before, such as ends of threads, and by VM_DEATH that the runtime ends. It has 0.2 s to read that, and 0.05 s to close
- * its end. All that it has suspended is resumed. If it has asked a thread to be suspended, and the thread has not answered, this waits until the thread
- * polls, so that thread does not call it. It is CQ_OK for a server that does not serve. CQ_OUT_OF_MEMORY 110, CQ_FULL 216: the
- * environment is not disposed of. Call again. */
+/* Ends the thread, closes all sockets, and disposes of the environment. Threads of the service go on meanwhile. A debugger is
+ * told of what took place before, such as ends of threads, and by VM_DEATH that the runtime ends. It has 0.2 s to read that, and
+ * 0.05 s to close its end. All that it has suspended is resumed. If it has asked a thread to be suspended, and the thread has not
+ * answered, this waits until the thread polls, so that thread does not call it. It is CQ_OK for a server that does not serve.
+ * CQ_OUT_OF_MEMORY 110, CQ_FULL 216: the environment is not disposed of. Call again. */
 uint32_t cq_serve_end(cq_server *server);
 
 #ifdef __cplusplus

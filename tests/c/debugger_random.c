@@ -1,6 +1,6 @@
-/* debugger_random.c: random streams of packets, cut at random, while threads run, come and go. Whatever comes, each whole request has
- * one reply, in order, and nothing but events stands between replies. A debugger that goes leaves no thread suspended. The runtime may end
- * in mid-stream: then nothing is written behind VM_DEATH. */
+/* debugger_random.c: random streams of packets, cut at random, while threads run, come and go. Whatever comes, each whole request
+ * has one reply, in order, and nothing but events stands between replies. A debugger that goes leaves no thread suspended. The
+ * runtime may end in mid-stream: then nothing is written behind VM_DEATH. */
 #include "debugger.h"
 #include "debugger_streams.h"
 
