@@ -359,7 +359,7 @@ class WithRuntime(unittest.TestCase):
             debugger = socket.create_connection(("127.0.0.1", server.port), timeout=10)
             debugger.sendall(b"JDWP-Handshake")
             self.assertEqual(debugger.recv(14, socket.MSG_WAITALL), b"JDWP-Handshake")
-        self.assertEqual(debugger.recv(1), b"")
+        self.assertEqual(debugger.recv(22, socket.MSG_WAITALL).hex(" "), "00 00 00 15 00 00 00 00 00 40 64 00 00 00 00 01 63 00 00 00 00")
         debugger.close()
         self.assert_code(Code.ILLEGAL_ARGUMENT, cebdyraq.Server, self.library, service, signal, "0.0.0.0:0", "a test", "/src")
 

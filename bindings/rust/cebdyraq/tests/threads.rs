@@ -372,7 +372,9 @@ fn listens_for_debuggers() {
     socket.read_exact(&mut greeting).unwrap();
     assert_eq!(&greeting, b"JDWP-Handshake");
     drop(server);
-    assert_eq!(socket.read(&mut greeting).unwrap(), 0);
+    let mut told = Vec::new();
+    socket.read_to_end(&mut told).unwrap();
+    assert_eq!(told, [0, 0, 0, 21, 0, 0, 0, 0, 0, 64, 100, 0, 0, 0, 0, 1, 99, 0, 0, 0, 0]); // VM_DEATH
     drop(running);
 }
 
