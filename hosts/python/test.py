@@ -202,6 +202,22 @@ class Served(WithFolder):
         for method, shown in {"nap": "time.sleep", "wait_for_lock": "with lock", "generate": "time.sleep", "run_loop": "asyncio.run"}.items():
             self.assertIn(shown, text[lines[method] - 1])
 
+    def wakes_of_the_watcher(self, host):
+        """How often it has slept until now."""
+        tasks = pathlib.Path(f"/proc/{host.process.pid}/task").iterdir()
+        [status] = [text for text in ((task / "status").read_text() for task in tasks) if text.startswith("Name:\tcq-watcher\n")]
+        return int(re.search(r"^voluntary_ctxt_switches:\t(\d+)$", status, re.M)[1])
+
+    def test_the_watcher_sleeps_while_nobody_asks(self):
+        with self.places("--serve", "127.0.0.1:0") as host:
+            self.threads_at_places(host)
+            time.sleep(0.2)
+            before = self.wakes_of_the_watcher(host)
+            time.sleep(1)
+            self.assertEqual(self.wakes_of_the_watcher(host), before)
+            self.threads_at_places(host)
+            self.assertGreater(self.wakes_of_the_watcher(host), before)
+
     def test_profile(self):
         with self.places("--serve", "127.0.0.1:0") as host:
             status, profile = host.get("/debug/pprof/profile?seconds=2&rate=100")

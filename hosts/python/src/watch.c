@@ -118,6 +118,7 @@ int watch_start(bool debugs) {
     pthread_sigmask(SIG_SETMASK, &all, &old);
     watches = pthread_create(&watcher, NULL, watch, PyInterpreterState_Get()) == 0;
     pthread_sigmask(SIG_SETMASK, &old, NULL);
+    if (watches) pthread_setname_np(watcher, "cq-watcher");
     if (!watches) PyErr_SetString(PyExc_RuntimeError, "no thread for the watcher");
     return watches ? 0 : -1;
 }
