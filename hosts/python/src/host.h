@@ -93,6 +93,7 @@ void trap_lift(struct thread *t);
 uint32_t watch_open(void);            /* before the first thread begins */
 int watch_start(bool debugs);
 void watch_end(void);                 /* without the GIL */
+void watch_close(void);               /* once no thread begins any more */
 bool watch_asks(struct thread *t);    /* whether the thread may have to stop at what it reaches next */
 
 /* classes.c: files as classes, and code objects as methods. */

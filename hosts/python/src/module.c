@@ -114,6 +114,7 @@ static PyObject *end(PyObject *module, PyObject *none) {
     Py_END_ALLOW_THREADS
     thread_end();
     host.off = true;
+    watch_close();
     for (size_t i = 0; i < host.count; i++) trap_lift(host.threads[i]);
     Py_RETURN_NONE;
 }

@@ -127,6 +127,9 @@ void watch_end(void) {
     if (watches && write(end, &(uint64_t){1}, sizeof(uint64_t)) == sizeof(uint64_t)) pthread_join(watcher, NULL);
     watches = asks = false;
     close(end);
+}
+
+void watch_close(void) {
     uint32_t code = cq_close_watch(&host.watch);
     if (code != CQ_OK) refused("cq_close_watch", code);
 }
