@@ -39,7 +39,7 @@ impl<'a, K: Role> Hold<'a, K> {
     pub fn watch(&mut self, watched: Option<Arc<Watched>>)
         ensures hold { self.new ≡ self.old }
     {
-        self.slot.watched = watched;
+        self.slot.watch(watched);
     }
 
     /// Puts the slot back, clears the lock bit, and gives the seat back. The seat has now seen the slot's history.

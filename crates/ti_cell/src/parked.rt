@@ -7,13 +7,26 @@ use std::sync::Arc;
 use ti_slot::Slot;
 use ti_types::{EnvNo, Limits, ThreadNo, TiError};
 
-/// A slot in a box, so that moving it moves a pointer, and what is to be told that its thread is wanted. Contracts see it as
-/// the slot.
+/// A slot, and what is to be told that its thread is wanted. Contracts see it as the slot.
 #[derive(Drop)]
-pub struct Parked {
-    pub(crate) slot: Box<Slot>,
+pub struct Lying {
+    pub(crate) slot: Slot,
     /// `None` if no watch is told of the thread.
     pub(crate) watched: Option<Arc<Watched>>,
+}
+
+impl Model for Lying {
+    ghost use Rattle.ti_slot.specs.Thread.{Thread};
+
+    ghost Value = { Thread };
+
+    ghost view = { λ l. l.slot };
+}
+
+/// A slot as it lies in its cell: in a box, so that moving it moves a pointer. Contracts see it as the slot.
+#[derive(Drop)]
+pub struct Parked {
+    pub(crate) lying: Box<Lying>,
 }
 
 impl Model for Parked {
@@ -21,7 +34,7 @@ impl Model for Parked {
 
     ghost Value = { Thread };
 
-    ghost view = { λ p. p.slot.value };
+    ghost view = { λ p. p.lying.value };
 }
 
 impl Parked {
@@ -30,13 +43,25 @@ impl Parked {
         ensures thread { IfOk result (λ s. s ≡ new_slot limits number) }
         ensures memory { IfErr result (λ e. e ≡ TiError.OutOfMemory) }
     {
-        match Box::new(alloc, Slot::new(alloc, limits, number)?) {
-            Ok(slot) => Ok(Parked {
+        let slot = Slot::new(alloc, limits, number)?;
+        match Box::new(
+            alloc,
+            Lying {
                 slot,
                 watched: None,
-            }),
+            },
+        ) {
+            Ok(lying) => Ok(Parked { lying }),
             Err(refused) => Err(AllocError::from(refused).into()),
         }
+    }
+
+    /// The slot.
+    #[inline(always)]
+    fn slot(&self) -> &Slot
+        ensures { result.now ≡ self.now }
+    {
+        &self.lying.slot
     }
 
     /// How many entries the thread's history has.
@@ -45,7 +70,7 @@ impl Parked {
         ensures len { result ≡ length self.now.history }
         ensures legal { is_legal self.now.limits self.now.history ≡ true }
     {
-        self.slot.len()
+        self.slot().len()
     }
 
     /// How many calls that were asked from the seat of this number wait, or have an answer that is not collected.
@@ -54,17 +79,25 @@ impl Parked {
         ensures out { result ≡ length (tickets_of number self.now.uncollected) }
         ensures few { length (tickets_of number self.now.uncollected) ≤ length (made_by number self.now.history) }
     {
-        self.slot.tickets();
+        let slot = self.slot();
+        slot.tickets();
         match number.checked_sub(1) {
-            Some(env) => self.slot.out(EnvNo(env)),
+            Some(env) => slot.out(EnvNo(env)),
             None => 0,
         }
+    }
+
+    /// From now on this is told that the thread is wanted.
+    pub fn watch(&mut self, watched: Option<Arc<Watched>>)
+        ensures same { self.new ≡ self.old }
+    {
+        self.lying.as_mut().watched = watched;
     }
 
     /// What is to be told that the thread is wanted.
     #[inline(never)]
     pub fn watched(&self) -> Option<Arc<Watched>> {
-        match &self.watched {
+        match &self.lying.watched {
             // There are never 2^63 references.
             Some(watched) => Arc::try_clone(watched).ok(),
             None => None,
@@ -76,7 +109,7 @@ impl Parked {
     pub fn armed(&self) -> bool
         ensures { result ≡ is_armed self.now.limits self.now.history }
     {
-        self.slot.armed()
+        self.slot().armed()
     }
 
     /// Whether the thread may not start or return.
@@ -84,7 +117,7 @@ impl Parked {
     pub fn barred(&self) -> bool
         ensures { result ≡ is_barred (view self.now.limits self.now.history) }
     {
-        self.slot.barred()
+        self.slot().barred()
     }
 }
 
@@ -94,8 +127,9 @@ pub fn unpark(parked: Option<Parked>) -> Option<Slot>
 {
     match parked {
         Some(p) => {
-            let Parked { slot, watched: _ } = p;
-            Some(Box::into_inner(slot))
+            let Parked { lying } = p;
+            let Lying { slot, watched: _ } = Box::into_inner(lying);
+            Some(slot)
         }
         None => None,
     }

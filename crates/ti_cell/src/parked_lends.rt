@@ -10,7 +10,7 @@ impl Parked {
         ensures* writes_back { sem 𝓛 (follows the_row slot_contracts.the_row self.entry.ghost_name result.ghost_name (λ t. t)) }
         ensures value { result.now ≡ self.old }
     {
-        self.slot.as_mut()
+        &mut self.lying.as_mut().slot
     }
 }
 

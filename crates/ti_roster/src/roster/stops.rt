@@ -49,12 +49,18 @@ impl Roster {
     }
 
     /// What is to be told of what was asked since this was last called, if anything was.
+    #[inline(always)]
     pub(crate) fn take_asked(&mut self) -> Option<Arc<Watched>>
         ensures { self.new ≡ self.old }
     {
-        if !self.asked {
-            return None;
-        }
+        if self.asked { self.take_told() } else { None }
+    }
+
+    /// The same, if something was asked.
+    #[inline(never)]
+    fn take_told(&mut self) -> Option<Arc<Watched>>
+        ensures { self.new ≡ self.old }
+    {
         self.asked = false;
         match &self.watched {
             // There are never 2^63 references.

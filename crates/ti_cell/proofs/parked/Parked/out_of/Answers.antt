@@ -12,12 +12,12 @@ pub returns-in-Some-clause-out : goal.returns-in-Some-clause-out
 returns-in-Some-clause-out c =
     let env : EnvNo = record { 0 = c.in-Some.env } in
     let number = c.in-Some.ensures in
-    c.out.ensures ∙ ap (λ (z : Thread). held_by env z.uncollected) (c.deref-in-Some.ensures ∙ c.self.view_is)
+    c.out.ensures ∙ ap (λ (z : Thread). held_by env z.uncollected) c.slot-slot.ensures
     ∙ sym (out_of_env c.args.number env (omega (arith, number.0, number.1)) c.args.self.now.uncollected)
 
 pub returns-in-Some-clause-few : goal.returns-in-Some-clause-few
 returns-in-Some-clause-few c =
-    subst (λ (z : Thread). length (tickets_of c.args.number z.uncollected) ≤ length (made_by c.args.number z.history)) (c.deref.ensures ∙ c.self.view_is) (few_of c.args.number c.deref.result.now c.tickets.ensures.few)
+    subst (λ (z : Thread). length (tickets_of c.args.number z.uncollected) ≤ length (made_by c.args.number z.history)) c.slot-slot.ensures (few_of c.args.number c.slot-slot.result.now c.tickets.ensures.few)
 
 pub returns-in-None-clause-out : goal.returns-in-None-clause-out
 returns-in-None-clause-out c =
@@ -27,4 +27,4 @@ returns-in-None-clause-out c =
 
 pub returns-in-None-clause-few : goal.returns-in-None-clause-few
 returns-in-None-clause-few c =
-    subst (λ (z : Thread). length (tickets_of c.args.number z.uncollected) ≤ length (made_by c.args.number z.history)) (c.deref.ensures ∙ c.self.view_is) (few_of c.args.number c.deref.result.now c.tickets.ensures.few)
+    subst (λ (z : Thread). length (tickets_of c.args.number z.uncollected) ≤ length (made_by c.args.number z.history)) c.slot-slot.ensures (few_of c.args.number c.slot-slot.result.now c.tickets.ensures.few)
