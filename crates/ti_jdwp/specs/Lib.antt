@@ -35,3 +35,4 @@ pub mod SessionRuns
 pub mod SessionHolds
 pub mod SessionStops
 pub mod SessionLets
+pub mod SessionEnds

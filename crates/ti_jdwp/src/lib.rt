@@ -76,7 +76,8 @@ pub use sending::{reply, send_event};
 pub use session::Session;
 pub use session_error::SessionError;
 pub use session_laws::{
-    no_event_while_stopped, nothing_stays_suspended, requests_are_answered, stops_are_let_go,
+    no_event_while_stopped, nothing_follows_the_end, nothing_stays_suspended,
+    requests_are_answered, stops_are_let_go,
 };
 pub use slots::read_slots;
 pub use stops::{Standing, Stopped, Verdict};

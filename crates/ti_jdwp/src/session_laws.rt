@@ -26,6 +26,12 @@ pub fn stops_are_let_go()
     ensures { StopsAreLetGo }
 {}
 
+/// Whatever calls come after the end of the runtime was told, in whatever order: nothing is sent behind it.
+pub fn nothing_follows_the_end()
+    ensures { NothingFollowsTheEnd }
+{}
+
+ghost use Rattle.ti_jdwp.specs.SessionEnds.{NothingFollowsTheEnd};
 ghost use Rattle.ti_jdwp.specs.SessionRuns.{RequestsAreAnswered};
 ghost use Rattle.ti_jdwp.specs.SessionHolds.{NothingStaysSuspended};
 ghost use Rattle.ti_jdwp.specs.SessionStops.{NoEventWhileStopped};
