@@ -49,6 +49,7 @@ typedef struct __attribute__((may_alias)) server {
     int waker;                                   /* an eventfd, by which the thread is woken */
     int sockets[CQ_DOOR_CONNECTIONS];            /* by connection, or -1; the thread alone changes them, with the lock */
     int leaving[CQ_DOOR_CONNECTIONS];            /* sockets of connections that ended, whose peers may still send */
+    int newcomer;                                /* that of a peer that has no connection yet, or -1 */
     uint64_t leaving_since[CQ_DOOR_CONNECTIONS];
     uint8_t actions[CQ_DOOR_CONNECTIONS];        /* what is to be done with each */
     uint64_t rooms[CQ_DOOR_CONNECTIONS];
@@ -127,16 +128,14 @@ static void add_server(server *s) {
     pthread_mutex_unlock(&of_servers);
 }
 
-/* Nobody writes to its waker any more. */
-static void remove_server(server *s) {
-    pthread_mutex_lock(&of_servers);
+/* With the lock. Nobody writes to its waker any more. */
+static void take_out(server *s) {
     server **at = &first_server;
     while (*at != s) {
         at = &(*at)->next;
     }
     *at = s->next;
     set_looks(s, false);
-    pthread_mutex_unlock(&of_servers);
 }
 
 void cebdyraq_wake_servers(const cq_signal *signal) {
@@ -150,6 +149,15 @@ void cebdyraq_wake_servers(const cq_signal *signal) {
             wake_thread(s);
         }
     }
+    pthread_mutex_unlock(&of_servers);
+}
+
+/* What servers have open changes with this lock, so that a child finds all of it. */
+static void lock_files(void) {
+    pthread_mutex_lock(&of_servers);
+}
+
+static void unlock_files(void) {
     pthread_mutex_unlock(&of_servers);
 }
 
@@ -169,6 +177,7 @@ static void forget(server *s) {
         close_socket(&s->sockets[i]);
         close_socket(&s->leaving[i]);
     }
+    close_socket(&s->newcomer);
     memset(s, 0, sizeof *s);
 }
 
@@ -214,7 +223,9 @@ static void see_off(int *socket, uint64_t since, uint64_t now) {
     ssize_t count = recv(*socket, bytes, sizeof bytes, MSG_DONTWAIT);
     bool is_there = count > 0 || (count < 0 && (errno == EAGAIN || errno == EINTR));
     if (!is_there || now - since >= LINGER_NS) {
+        lock_files();
         close_socket(socket);
+        unlock_files();
     }
 }
 
@@ -238,14 +249,18 @@ static void disconnect(server *s, uint32_t connection) {
 
 static void drop(server *s, uint32_t connection) {
     disconnect(s, connection);
+    lock_files();
     int socket = set_socket(s, connection, -1);
     close_socket(&socket);
+    unlock_files();
 }
 
 /* Ends a connection that the door has closed. */
 static void leave(server *s, uint32_t connection, uint64_t now) {
     disconnect(s, connection);
+    lock_files();
     let_leave(s, set_socket(s, connection, -1), now);
+    unlock_files();
 }
 
 /* Writes what is to be written. Returns whether the socket took some. */
@@ -384,10 +399,28 @@ static bool is_welcome(const server *s, int socket) {
     return !s->is_for_debuggers || is_own_peer(socket);
 }
 
-static void settle_in(server *s, uint32_t connection, int socket) {
+/* Takes a peer in from the listener. Returns whether another may be taken in. */
+static bool receive_newcomer(server *s) {
+    lock_files();
+    s->newcomer = accept4(s->listener.socket, NULL, NULL, SOCK_CLOEXEC | SOCK_NONBLOCK);
+    int why = errno;
+    unlock_files();
+    return s->newcomer >= 0 || why == EAGAIN || why == EINTR || why == ECONNABORTED;
+}
+
+static void turn_away(server *s) {
+    lock_files();
+    close_socket(&s->newcomer);
+    unlock_files();
+}
+
+static void settle_in(server *s, uint32_t connection) {
     int yes = 1;
-    setsockopt(socket, IPPROTO_TCP, TCP_NODELAY, &yes, sizeof yes);
-    set_socket(s, connection, socket);
+    setsockopt(s->newcomer, IPPROTO_TCP, TCP_NODELAY, &yes, sizeof yes);
+    lock_files();
+    set_socket(s, connection, s->newcomer);
+    s->newcomer = -1;
+    unlock_files();
     s->greets_by = s->is_for_debuggers ? now_ns() + GREETING_NS : NEVER;
     go_on(s, connection);
 }
@@ -408,17 +441,16 @@ static bool take_in(server *s) {
     if (!has_place && !s->is_for_debuggers) {
         return false;
     }
-    int socket = accept4(s->listener.socket, NULL, NULL, SOCK_CLOEXEC | SOCK_NONBLOCK);
-    bool is_refused = socket < 0 && errno != EAGAIN && errno != EINTR && errno != ECONNABORTED;
-    if (socket >= 0 && has_place && is_welcome(s, socket)) {
-        settle_in(s, connection, socket);
+    bool goes_on = receive_newcomer(s);
+    if (s->newcomer >= 0 && has_place && is_welcome(s, s->newcomer)) {
+        settle_in(s, connection);
         return true;
     }
-    close_socket(&socket);
+    turn_away(s);
     if (has_place) {
         disconnect(s, connection);
     }
-    return !is_refused;
+    return goes_on;
 }
 
 /* ------------------------------------------------------------------------------------------------------------------
@@ -714,14 +746,19 @@ static void *run(void *arg) {
 
 static void close_all(server *s) {
     int kept = errno;
-    close_listener(&s->listener);
-    close_socket(&s->waker);
     for (uint32_t i = 0; i < CQ_DOOR_CONNECTIONS; i++) {
         if (s->sockets[i] >= 0) {
             drop(s, i);
         }
+    }
+    lock_files();
+    take_out(s);
+    close_listener(&s->listener);
+    close_socket(&s->waker);
+    for (uint32_t i = 0; i < CQ_DOOR_CONNECTIONS; i++) {
         close_socket(&s->leaving[i]);
     }
+    unlock_files();
     errno = kept;
 }
 
@@ -779,11 +816,12 @@ static bool has_room_for_one(const server *s) {
 
 /* Starts the thread, to which no signal of the program's comes. */
 static bool start(server *s) {
-    static pthread_once_t prepared = PTHREAD_ONCE_INIT;
     sigset_t all, kept;
-    pthread_once(&prepared, prepare_for_forks);
+    lock_files();
     s->waker = eventfd(0, EFD_CLOEXEC | EFD_NONBLOCK);
-    if (s->waker < 0 || !has_room_for_one(s)) {
+    bool has_room = s->waker >= 0 && has_room_for_one(s);
+    unlock_files();
+    if (!has_room) {
         return false;
     }
     sigfillset(&all);
@@ -792,15 +830,14 @@ static bool start(server *s) {
     pthread_sigmask(SIG_SETMASK, &kept, NULL);
     errno = failed ? failed : errno;
     s->runs = !failed;
-    if (s->runs) {
-        add_server(s);
-    }
     return s->runs;
 }
 
 /* Listens, opens the door and starts the thread. */
 static uint32_t start_at(server *s, cq_service *service, const char *address, const opening *of) {
+    lock_files();
     uint32_t code = open_listener(&s->listener, address);
+    unlock_files();
     if (code == CQ_OK) {
         code = open_door(s, service, of);
     }
@@ -816,6 +853,7 @@ static bool serves(const server *s) {
 }
 
 static uint32_t begin(cq_server *in, cq_service *service, cq_signal *signal, const char *address, const opening *of) {
+    static pthread_once_t prepared = PTHREAD_ONCE_INIT;
     server *s = (server *)in;
     if (serves(s)) {
         return CQ_MISUSED;
@@ -826,6 +864,9 @@ static uint32_t begin(cq_server *in, cq_service *service, cq_signal *signal, con
     for (size_t i = 0; i < CQ_DOOR_CONNECTIONS; i++) {
         s->sockets[i] = s->leaving[i] = -1;
     }
+    s->newcomer = s->listener.socket = -1;
+    pthread_once(&prepared, prepare_for_forks);
+    add_server(s);
     uint32_t code = start_at(s, service, address, of);
     if (code != CQ_OK) {
         s->is_for_debuggers = false;
@@ -943,7 +984,6 @@ uint32_t cq_serve_end(cq_server *in) {
     if (s->runs) {
         end_thread(s);
         s->runs = false;
-        remove_server(s);
         close_all(s);
     }
     return s->door.kind != 0 ? close_door(s) : CQ_OK;

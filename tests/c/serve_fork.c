@@ -2,7 +2,10 @@
 #define _GNU_SOURCE
 #include "served.h"
 
+#include <netinet/in.h>
+#include <pthread.h>
 #include <signal.h>
+#include <sys/socket.h>
 #include <sys/wait.h>
 #include <unistd.h>
 
@@ -24,8 +27,11 @@ static bool begins_anew(void) {
     return true;
 }
 
-/* A child that lives on. It is killed in the end, so that nobody looks for leaks in its copy of the parent's memory. */
-static pid_t live_on(void) {
+static bool forgets_and_begins_anew(void) { return is_forgotten() && begins_anew(); }
+
+/* A child in which this is so, and which lives on. It is killed in the end, so that nobody looks for leaks in its copy of the parent's
+ * memory. */
+static pid_t live_on(bool (*is_so)(void)) {
     char found = 0;
     int ends[2];
     SAME(pipe(ends), 0);
@@ -33,7 +39,7 @@ static pid_t live_on(void) {
     pid_t child = fork();
     CHECK(child >= 0);
     if (child == 0) {
-        found = is_forgotten() && begins_anew() ? 'y' : 'n';
+        found = is_so() ? 'y' : 'n';
         SAME(write(ends[1], &found, 1), 1);
         for (;;) pause();
     }
@@ -64,7 +70,7 @@ static void keeps_no_port(void) {
     OK(cq_server_port(&server, &port));
     snprintf(address, sizeof address, "127.0.0.1:%u", port);
     int socket = dial(&server);
-    pid_t child = live_on();
+    pid_t child = live_on(forgets_and_begins_anew);
     is_served();
     end_served();
     CHECK(is_closed(socket));
@@ -80,7 +86,7 @@ static void keeps_the_path(void) {
     static char address[80];
     snprintf(address, sizeof address, "unix:/tmp/cebdyraq-%d-fork.sock", (int)getpid());
     begin_served(address);
-    pid_t child = live_on();
+    pid_t child = live_on(forgets_and_begins_anew);
     end(child);
     server_path = address + 5;
     is_served();
@@ -88,7 +94,45 @@ static void keeps_the_path(void) {
     server_path = NULL;
 }
 
+enum { CHILDREN = 100, DESCRIPTORS = 256 };
+static uint16_t its_port;
+static uint32_t has_ended;
+
+/* Debuggers that come and go, one after another. */
+static void *come_and_go(void *unused) {
+    (void)unused;
+    while (!__atomic_load_n(&has_ended, __ATOMIC_SEQ_CST)) close(dial_to(its_port));
+    return NULL;
+}
+
+/* Whether no socket of this process is the server's: the server's have their own end at its port. */
+static bool has_none_at_the_port(void) {
+    for (int i = 0; i < DESCRIPTORS; i++) {
+        struct sockaddr_in at = { 0 };
+        socklen_t size = sizeof at;
+        if (getsockname(i, (struct sockaddr *)&at, &size) == 0 && at.sin_family == AF_INET && at.sin_port == htons(its_port)) return false;
+    }
+    return true;
+}
+
+/* Children are made while peers are taken in, looked at and turned away. None keeps a socket of the server's. */
+static void keeps_no_newcomer(void) {
+    static cq_service own;
+    static cq_server debugged;
+    pthread_t peers;
+    OK(cq_make(4, 2, 2, 0, &own));
+    OK(cq_debug_listen(&debugged, &own, NULL, "127.0.0.1:0", "forks", "/"));
+    OK(cq_server_port(&debugged, &its_port));
+    SAME(pthread_create(&peers, NULL, come_and_go, NULL), 0);
+    for (int i = 0; i < CHILDREN; i++) end(live_on(has_none_at_the_port));
+    __atomic_store_n(&has_ended, 1, __ATOMIC_SEQ_CST);
+    pthread_join(peers, NULL);
+    OK(cq_serve_end(&debugged));
+    OK(cq_free(&own));
+}
+
 void forgets_in_a_child(void) {
     keeps_no_port();
+    keeps_no_newcomer();
     keeps_the_path();
 }
