@@ -5,7 +5,8 @@ import select
 import subprocess
 import time
 
-PROMPT = re.compile(r"(?:\A|(?<=\n))(?:> |\S+\[\d+\] )\Z")
+# jdb may write it twice, as it attaches to threads that are suspended.
+PROMPT = re.compile(r"(?:\A|(?<=\n))(?:> |\S+\[\d+\] )+\Z")
 PATIENCE = 120  # seconds that jdb may take for one answer, on a busy machine
 
 
