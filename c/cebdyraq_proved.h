@@ -15,8 +15,8 @@ uint32_t cebdyraq_open_debugger(cq_service *service, const uint8_t *program, siz
 /* A watch of threads, which is told of each that becomes wanted, and counts its news. A handle of it is the first two members of a
  * cq_watch, and is used by one call at a time, but for the count.
  *
- * `beside` is a watch with which the new one shares its count of news, or an empty handle. CQ_MISUSED 304: `watch` is not empty, or
- * `beside` is a handle of another kind. CQ_OUT_OF_MEMORY 110. */
+ * If `beside` is a watch, the new one shares its count of news; otherwise it begins a count of its own. CQ_MISUSED 304: `watch` is not
+ * empty. CQ_OUT_OF_MEMORY 110. */
 uint32_t cebdyraq_open_watch(cq_watch *beside, cq_watch *watch);
 
 /* Empties the handle. */
@@ -26,7 +26,7 @@ uint32_t cebdyraq_close_watch(cq_watch *watch);
  * CQ_BUSY 215, CQ_OUT_OF_MEMORY 110. */
 uint32_t cebdyraq_watch_thread(cq_thread *thread, cq_watch *watch);
 
-/* From now on no watch tells of it. CQ_NOT_RUNNING 204, CQ_BUSY 215. */
+/* From now on no watch tells that it becomes wanted; one may still tell that it did before. CQ_NOT_RUNNING 204, CQ_BUSY 215. */
 uint32_t cebdyraq_unwatch_thread(cq_thread *thread);
 
 /* From now on the watch tells under the number CQ_ALL_THREADS that an environment of the service asks for a stop or no longer does, and
